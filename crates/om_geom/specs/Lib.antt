@@ -1,0 +1,7 @@
+pub mod Addresses
+pub mod AddressLaws
+pub mod Classes
+pub mod ClassLaws
+pub mod Fit
+pub mod FitLaws
+pub mod BitLaws

@@ -1,0 +1,4 @@
+pub mod Front
+pub mod Added
+pub mod Given
+pub mod Calls

@@ -1,0 +1,5 @@
+use Rattle.om_model.specs.WellFormedLaws.{state_of-well_formed}
+use Rattle.om_model.proofs.laws.blocks_are_apart.Goals as goal
+
+pub returns : goal.returns
+returns c = state_of-well_formed

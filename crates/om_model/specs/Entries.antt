@@ -1,0 +1,7 @@
+-- A journal as contracts see it: its entries, and for how many more room is already made.
+use Rattle.std.specs.Prelude.{ℕ, List}
+use Rattle.om_model.specs.declared.entry.Entry.{Entry}
+
+pub record Entries : Type 0 where
+  pub items : List Entry
+  pub spare : ℕ

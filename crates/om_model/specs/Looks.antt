@@ -1,0 +1,60 @@
+-- Looks. A look of a claim is at a version that the zone has had, at which the pages that it seeks didn't
+-- fit. In one journal the versions named for a zone never fall, and a move's is above all that were named
+-- for the zone before it.
+use Rattle.std.specs.Prelude.{◌≡◌, ℕ, ◌%◌, ◌<◌, ◌≤◌, Bool, true, false, List, [], ◌∷◌, ◌++◌, map, None}
+use Rattle.std.specs.List.{AllByRecursion, flat_map}
+use Rattle.std.specs.Option.{is_some, option_to_list}
+use Rattle.om_geom.specs.Fit.{fit_of}
+use Rattle.om_model.specs.ZoneOrder.{ZoneMove, last_version, owner, searched_by}
+use Rattle.om_model.specs.declared.looks.Look.{Look}
+use Rattle.om_model.specs.declared.entry.Move.{Move}
+use Rattle.om_model.specs.declared.entry.Entry.{Entry}
+use Rattle.om_model.specs.declared.entry.Entry.TheVariants.{Call, Phase}
+use Rattle.om_model.specs.declared.operation.Op.{Op}
+
+-- the look is at a version that the zone has had, and so many pages didn't fit there then
+pub record IsTrueLook (moves : List ZoneMove) (n word : ℕ) (look : Look) : Type 0 where
+  pub version : look.version ≤ last_version moves look.zone
+  pub full : fit_of (λ bit. is_some (owner moves look.zone look.version bit)) n (word % 32) ≡ None
+
+-- the number of pages that a call seeks: one, for chunks
+abbrev pub sought : Op → ℕ
+sought op = 1
+
+-- each look at a zone that a claim passed over is true
+abbrev pub HasTrueLooks : List ZoneMove → Entry → Type 0
+HasTrueLooks moves (Call entry) = AllByRecursion (IsTrueLook moves (sought entry.op) (searched_by entry)) entry.looks.items
+HasTrueLooks moves (Phase number) = Unit {0}
+
+-- a version that an entry names for a zone, by a look or by a move
+pub record Named : Type 0 where
+  pub zone : ℕ
+  pub version : ℕ
+  pub moves : Bool
+
+abbrev pub named_by_look : Look → Named
+named_by_look look = record { zone = look.zone; version = look.version; moves = false }
+
+abbrev pub named_by_move : Move → Named
+named_by_move move = record { zone = move.zone; version = move.version; moves = true }
+
+-- what an entry names, in the order in which it came about
+abbrev pub named_in : Entry → List Named
+named_in (Call entry) =
+    map named_by_look (option_to_list entry.taken ++ entry.looks.items)
+    ++ map named_by_move (option_to_list entry.claim ++ option_to_list entry.release)
+named_in (Phase number) = []
+
+-- the later is not below the earlier of the same zone, and a move's is above it
+abbrev pub ComesAfter : Named → Named → Type 0
+ComesAfter earlier later = earlier.zone ≡ later.zone → (earlier.version ≤ later.version) × (later.moves ≡ true → earlier.version < later.version)
+
+-- each is followed only by what comes after it
+abbrev pub Rises : List Named → Type 0
+Rises [] = Unit {0}
+Rises (earlier ∷ later) = AllByRecursion (ComesAfter earlier) later × Rises later
+
+-- The looks of one journal, where the moves are those of all journals.
+pub record AreLooks (moves : List ZoneMove) (entries : List Entry) : Type 0 where
+  pub true_looks : AllByRecursion (HasTrueLooks moves) entries
+  pub rising : Rises (flat_map named_in entries)

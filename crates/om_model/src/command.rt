@@ -1,0 +1,8 @@
+/// A command of a script. A variable is its place in the list of the script's names.
+#[derive(Clone, Copy, Debug, PartialEq, Eq)]
+pub enum Command {
+    /// The variable becomes the block, or 0 where the answer is null.
+    Malloc { var: u32, size: u64, site: u64 },
+    /// Frees what the variable holds.
+    Free { var: u32 },
+}

@@ -1,0 +1,74 @@
+ghost use Rattle.std.specs.Prelude.{◌≡◌, ◌+◌, ◌-◌, ◌^◌, ◌<◌, ◌≤◌, ◌==◌, [], ◌∷◌, ◌++◌, length, Some, slice_get, OnOk};
+
+use crate::entry::Entry;
+use std::alloc::{AllocError, Global};
+use std::marker::Model;
+
+/// The journal of a pool: every call and phase, in their order.
+#[derive(Drop)]
+pub struct Journal {
+    entries: Vec<Entry>,
+}
+
+impl Model for Journal {
+    ghost use Rattle.std.specs.Prelude.{◌-◌, ◌^◌, ◌<◌, vec_len, vec_capacity};
+    ghost use Rattle.om_model.specs.Entries.{Entries};
+
+    ghost Value = { Entries };
+
+    ghost view = { λ j. record { items = j.entries.items; spare = vec_capacity j.entries - vec_len j.entries } };
+
+    ghost invariant = { λ j. vec_len j.entries < 2 ^ 32 };
+}
+
+impl Journal {
+    pub fn new(alloc: Global) -> Journal
+        ensures { result.items ≡ [] }
+    {
+        Journal {
+            entries: Vec::new(alloc),
+        }
+    }
+
+    /// Makes room for an entry.
+    pub fn reserve(&mut self) -> Result<(), AllocError>
+        requires { length self.old.items < 2 ^ 32 - 1 }
+        ensures items { self.new.items ≡ self.old.items }
+        ensures room { OnOk result (1 ≤ self.new.spare) }
+        ensures spare { self.old.spare ≤ self.new.spare }
+    {
+        self.entries.reserve(1)
+    }
+
+    /// Takes no memory: the room was made before.
+    pub fn push(&mut self, entry: Entry)
+        requires short { length self.old.items < 2 ^ 32 - 1 }
+        requires room { 1 ≤ self.old.spare }
+        ensures items { self.new.items ≡ self.old.items ++ entry ∷ [] }
+        ensures spare { self.old.spare ≤ self.new.spare + 1 }
+    {
+        match self.entries.push(entry) {
+            Ok(()) => {}
+            Err(_) => unreachable!(),
+        }
+    }
+
+    pub fn len(&self) -> u32
+        ensures len { result ≡ length self.now.items }
+    {
+        self.entries.len() as u32
+    }
+
+    pub fn is_empty(&self) -> bool
+        ensures { result ≡ (length self.now.items == 0) }
+    {
+        self.entries.is_empty()
+    }
+
+    pub fn entry(&self, i: u32) -> &Entry
+        requires { i < length self.now.items }
+        ensures { slice_get self.now.items i ≡ Some result.now }
+    {
+        &self.entries[i as usize]
+    }
+}

@@ -1,0 +1,31 @@
+//! The data of a run: operations, replies, the journal of a pool, the transcript of a script. The
+//! definitions of what a lawful run is stand in `specs/`, and contracts cite them.
+#![tactic(auto)]
+
+mod block;
+mod board;
+mod command;
+mod drawn;
+mod entry;
+mod journal;
+mod laws;
+mod looks;
+mod operation;
+mod reply;
+pub mod slow;
+mod transcript;
+
+pub use block::{Block, Place};
+pub use board::{Board, BoardEntry};
+pub use command::Command;
+pub use drawn::Drawn;
+pub use entry::{CallEntry, Entry, Move};
+pub use journal::Journal;
+pub use laws::blocks_are_apart;
+pub use looks::{Look, LookList};
+pub use operation::{Op, Who};
+pub use reply::{Fault, Outcome, Reply, Segv, Why};
+pub use transcript::{Transcript, TranscriptList};
+
+#[cfg(test)]
+mod tests;

@@ -1,0 +1,81 @@
+ghost use Rattle.std.specs.Prelude.{◌≡◌, ◌+◌, ◌-◌, ◌^◌, ◌<◌, ◌≤◌, ◌==◌, [], ◌∷◌, ◌++◌, length, Some, slice_get, IfOk};
+
+use std::alloc::{AllocError, Global};
+use std::marker::Model;
+
+/// A zone at a version: the bits that are held after that move. Version 0 has all bits clear.
+#[derive(Clone, Copy, Debug, PartialEq, Eq)]
+pub struct Look {
+    pub zone: u32,
+    pub version: u32,
+}
+
+/// The looks of one call, in order.
+#[derive(Drop)]
+pub struct LookList {
+    looks: Vec<Look>,
+}
+
+impl Model for LookList {
+    ghost use Rattle.std.specs.Prelude.{◌-◌, ◌^◌, ◌<◌, vec_len, vec_capacity};
+    ghost use Rattle.om_model.specs.Room.{Looks};
+
+    ghost Value = { Looks };
+
+    ghost view = { λ l. record { items = l.looks.items; spare = vec_capacity l.looks - vec_len l.looks } };
+
+    ghost invariant = { λ l. vec_len l.looks < 2 ^ 32 };
+}
+
+impl LookList {
+    pub fn empty(alloc: Global) -> LookList
+        ensures { result.items ≡ [] }
+    {
+        LookList {
+            looks: Vec::new(alloc),
+        }
+    }
+
+    /// An empty list with room for `n` looks.
+    pub fn with_room(alloc: Global, n: u32) -> Result<LookList, AllocError>
+        ensures items { IfOk result (λ list. list.items ≡ []) }
+        ensures room { IfOk result (λ list. n ≤ list.spare) }
+    {
+        Ok(LookList {
+            looks: Vec::with_capacity(alloc, n as usize)?,
+        })
+    }
+
+    /// Takes no memory: the room was made before.
+    pub fn push(&mut self, look: Look)
+        requires short { length self.old.items < 2 ^ 32 - 1 }
+        requires room { 1 ≤ self.old.spare }
+        ensures items { self.new.items ≡ self.old.items ++ look ∷ [] }
+        ensures spare { self.old.spare ≤ self.new.spare + 1 }
+    {
+        match self.looks.push(look) {
+            Ok(()) => {}
+            Err(_) => unreachable!(),
+        }
+    }
+
+    pub fn len(&self) -> u32
+        ensures len { result ≡ length self.now.items }
+    {
+        self.looks.len() as u32
+    }
+
+    pub fn is_empty(&self) -> bool
+        ensures { result ≡ (length self.now.items == 0) }
+    {
+        self.looks.is_empty()
+    }
+
+    /// The looks in the order in which they were taken.
+    pub fn look(&self, i: u32) -> Look
+        requires { i < length self.now.items }
+        ensures { slice_get self.now.items i ≡ Some result }
+    {
+        self.looks[i as usize]
+    }
+}

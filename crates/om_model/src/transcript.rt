@@ -1,0 +1,66 @@
+ghost use Rattle.std.specs.Prelude.{◌≡◌, ◌-◌, ◌^◌, ◌<◌, ◌==◌, [], ◌∷◌, ◌++◌, length, Some, slice_get, OnOk, OnErr};
+
+use crate::reply::Outcome;
+use std::alloc::{AllocError, Global};
+use std::marker::Model;
+
+/// The outcomes of a script's commands, from the first on.
+#[derive(Drop)]
+pub struct Transcript {
+    outcomes: Vec<Outcome>,
+}
+
+impl Model for Transcript {
+    ghost use Rattle.std.specs.Prelude.{List, ◌^◌, ◌<◌, vec_len};
+    ghost use Rattle.om_model.specs.declared.reply.Outcome.{Outcome};
+
+    ghost Value = { List Outcome };
+
+    ghost view = { λ t. t.outcomes.items };
+
+    ghost invariant = { λ t. vec_len t.outcomes < 2 ^ 32 };
+}
+
+impl Transcript {
+    pub fn new(alloc: Global) -> Transcript
+        ensures { result ≡ [] }
+    {
+        Transcript {
+            outcomes: Vec::new(alloc),
+        }
+    }
+
+    pub fn push(&mut self, outcome: Outcome) -> Result<(), AllocError>
+        requires { length self.old < 2 ^ 32 - 1 }
+        ensures ok { OnOk result (self.new ≡ self.old ++ outcome ∷ []) }
+        ensures err { OnErr result (self.new ≡ self.old) }
+    {
+        self.outcomes.push(outcome)?;
+        Ok(())
+    }
+
+    pub fn len(&self) -> u32
+        ensures { result ≡ length self.now }
+    {
+        self.outcomes.len() as u32
+    }
+
+    pub fn is_empty(&self) -> bool
+        ensures { result ≡ (length self.now == 0) }
+    {
+        self.outcomes.is_empty()
+    }
+
+    pub fn outcome(&self, i: u32) -> &Outcome
+        requires { i < length self.now }
+        ensures { slice_get self.now i ≡ Some result.now }
+    {
+        &self.outcomes[i as usize]
+    }
+}
+
+/// The transcripts of all scripts, in the order of their numbers.
+#[derive(Drop)]
+pub struct TranscriptList {
+    transcripts: Vec<Transcript>,
+}

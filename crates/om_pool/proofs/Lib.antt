@@ -1,0 +1,14 @@
+pub mod Begun
+pub mod ClaimLaws
+pub mod CoreLaws
+pub mod FreeCases
+pub mod FreeCore
+pub mod FreeKept
+pub mod Held
+pub mod Kept
+pub mod Lists
+pub mod LookLaws
+pub mod MallocLaws
+pub mod ZoneAnswers
+pub mod ZoneLaws
+pub mod ZoneMoves

@@ -1,0 +1,175 @@
+-- Lists of moves, and what one more move changes in them.
+use Rattle.std.proofs.Common.{◌≡◌, ◌≢◌, ℕ, zero, suc, ◌+◌, ◌-◌, ◌%◌, ◌<◌, ◌≤◌, Bool, true, false, cond, not, ◌&&◌, ◌==◌, nat_le, List, [], ◌∷◌, ◌++◌, length, Option, Some, None, refl, sym, subst, ◌∙◌, ap, arith, add-one, count_by}
+use Rattle.std.specs.List.{AllByRecursion, find, list_all, range_with_len}
+use Rattle.std.specs.Option.{is_some, option_or}
+use Rattle.std.proofs.lemmas.Bool.{cases_Bool, cases_eq, and_from, and_left, and_right, eq-eqb, ne_eqb, leb-true}
+use Rattle.std.proofs.lemmas.List.Folds.{find-append}
+use Rattle.std.proofs.lemmas.List.Sums.{sum_by-cons, sum_by_push, count_by-le-length}
+use Rattle.om_geom.specs.Fit.{cyclic, fit_of, is_clear_run}
+use Rattle.om_model.specs.ZoneOrder.{ZoneMove, IsZoneOrder, IsLawfulMove, is_at, last_version, owner, owner_after}
+use Rattle.om_pool.specs.ZoneStand.{IsOwnMove}
+use mathlib.Core.Logic.{⊎_elim}
+
+-- ---- each element of a list
+
+pub all_map : {X : Type 0} (P Q : X → Type 0) (xs : List X) → ((x : X) → P x → Q x) → AllByRecursion P xs → AllByRecursion Q xs
+all_map P Q [] f all = tt
+all_map P Q (x ∷ xs) f all = (f x all.0, all_map P Q xs f all.1)
+
+all_both : {X : Type 0} (P Q R : X → Type 0) (xs : List X) → ((x : X) → P x → Q x → R x) → AllByRecursion P xs → AllByRecursion Q xs → AllByRecursion R xs
+all_both P Q R [] f ps qs = tt
+all_both P Q R (x ∷ xs) f ps qs = (f x ps.0 qs.0, all_both P Q R xs f ps.1 qs.1)
+
+pub all_push : {X : Type 0} (P : X → Type 0) (xs : List X) (y : X) → AllByRecursion P xs → P y → AllByRecursion P (xs ++ y ∷ [])
+all_push P [] y all last = (last, tt)
+all_push P (x ∷ xs) y all last = (all.0, all_push P xs y all.1 last)
+
+find-none : {X : Type 0} (test : X → Bool) (xs : List X) → AllByRecursion (λ x. test x ≡ false) xs → find test xs ≡ None
+find-none test [] all = refl
+find-none test (x ∷ xs) all = ap (λ b. cond b (Some x) (find test xs)) all.0 ∙ find-none test xs all.1
+
+abbrev tally : Bool → ℕ
+tally b = cond b 1 0
+
+count_by-none : {X : Type 0} (test : X → Bool) (xs : List X) → AllByRecursion (λ x. test x ≡ false) xs → count_by test xs ≡ 0
+count_by-none test [] all = refl
+count_by-none test (x ∷ xs) all =
+    let here : tally (test x) ≡ 0 = ap tally all.0 in
+    let rest = count_by-none test xs all.1 in
+    let split = sum_by-cons (λ y. cond (test y) 1 0) x xs in
+    omega arith
+
+find-push_no : {X : Type 0} (test : X → Bool) (xs : List X) (y : X) → test y ≡ false → find test (xs ++ y ∷ []) ≡ find test xs
+find-push_no {X} test xs y out = find-append test xs (y ∷ []) ∙ ap (λ b. option_or (find test xs) (cond b (Some y) None)) out ∙ right (find test xs)
+  where
+    right : (o : Option X) → option_or o None ≡ o
+    right None = refl
+    right (Some x) = refl
+
+find-push_first : {X : Type 0} (test : X → Bool) (xs : List X) (y : X) → find test xs ≡ None → test y ≡ true → find test (xs ++ y ∷ []) ≡ Some y
+find-push_first test xs y none passes = find-append test xs (y ∷ []) ∙ ap (λ o. option_or o (cond (test y) (Some y) None)) none ∙ ap (λ b. cond b (Some y) None) passes
+
+count_by-push_no : {X : Type 0} (test : X → Bool) (xs : List X) (y : X) → test y ≡ false → count_by test (xs ++ y ∷ []) ≡ count_by test xs
+count_by-push_no test xs y out =
+    let more = sum_by_push (λ x. cond (test x) 1 0) xs y in
+    let last : tally (test y) ≡ 0 = ap tally out in
+    omega arith
+
+count_by-push_yes : {X : Type 0} (test : X → Bool) (xs : List X) (y : X) → test y ≡ true → count_by test (xs ++ y ∷ []) ≡ count_by test xs + 1
+count_by-push_yes test xs y passes =
+    let more = sum_by_push (λ x. cond (test x) 1 0) xs y in
+    let last : tally (test y) ≡ 1 = ap tally passes in
+    omega arith
+
+-- ---- a fit reads the 32 bits alone
+
+list_all-same : (p q : ℕ → Bool) (a n : ℕ) → ((i : ℕ) → i < a + n → p i ≡ q i) → list_all p (range_with_len a n) ≡ list_all q (range_with_len a n)
+list_all-same p q a zero same = refl
+list_all-same p q a (suc n) same =
+    ap (λ b. b && list_all p (range_with_len (a + 1) n)) (same a (omega arith))
+    ∙ ap (λ b. q a && b) (list_all-same p q (a + 1) n (λ i lt. same i (omega arith)))
+
+is_clear_run-same : (p q : ℕ → Bool) (n first : ℕ) → ((i : ℕ) → i < 32 → p i ≡ q i) → is_clear_run p n first ≡ is_clear_run q n first
+is_clear_run-same p q n first same = ⊎_elim
+    (λ t. let within = leb-true (first + n) 32 t in ap (λ b. nat_le (first + n) 32 && b) (list_all-same (λ i. not (p i)) (λ i. not (q i)) first n (λ i lt. ap not (same i (omega arith)))))
+    (λ f. and_left _ _ f ∙ sym (and_left _ _ f))
+    (cases_Bool (nat_le (first + n) 32))
+
+find-same : {X : Type 0} (p q : X → Bool) (xs : List X) → ((x : X) → p x ≡ q x) → find p xs ≡ find q xs
+find-same p q [] same = refl
+find-same p q (x ∷ xs) same = ap (λ b. cond b (Some x) (find p xs)) (same x) ∙ ap (λ o. cond (q x) (Some x) o) (find-same p q xs same)
+
+pub fit_of-same : (p q : ℕ → Bool) (n start : ℕ) → ((i : ℕ) → i < 32 → p i ≡ q i) → fit_of p n start ≡ fit_of q n start
+fit_of-same p q n start same = find-same (is_clear_run p n) (is_clear_run q n) (cyclic 32 start) (λ first. is_clear_run-same p q n first same)
+
+-- ---- one more move
+
+is_at-true : (zone version : ℕ) (m : ZoneMove) → m.move.zone ≡ zone → m.move.version ≡ version → is_at zone version m ≡ true
+is_at-true zone version m z v = and_from _ _ (eq-eqb m.move.zone zone z) (eq-eqb m.move.version version v)
+
+is_at-other_zone : (zone version : ℕ) (m : ZoneMove) → m.move.zone ≢ zone → is_at zone version m ≡ false
+is_at-other_zone zone version m z = and_left _ _ (ne_eqb m.move.zone zone z)
+
+is_at-other_version : (zone version : ℕ) (m : ZoneMove) → m.move.version ≢ version → is_at zone version m ≡ false
+is_at-other_version zone version m v = and_right _ _ (ne_eqb m.move.version version v)
+
+pub last_version-le : (moves : List ZoneMove) (zone : ℕ) → last_version moves zone ≤ length moves
+last_version-le moves zone = count_by-le-length (λ m. m.move.zone == zone) moves
+
+pub last_version-same : (moves : List ZoneMove) (m : ZoneMove) (zone : ℕ) → m.move.zone ≡ zone → last_version (moves ++ m ∷ []) zone ≡ last_version moves zone + 1
+last_version-same moves m zone z = count_by-push_yes (λ x. x.move.zone == zone) moves m (eq-eqb m.move.zone zone z)
+
+pub last_version-other : (moves : List ZoneMove) (m : ZoneMove) (zone : ℕ) → m.move.zone ≢ zone → last_version (moves ++ m ∷ []) zone ≡ last_version moves zone
+last_version-other moves m zone z = count_by-push_no (λ x. x.move.zone == zone) moves m (ne_eqb m.move.zone zone z)
+
+pub last_version-grows : (moves : List ZoneMove) (m : ZoneMove) (zone : ℕ) → last_version moves zone ≤ last_version (moves ++ m ∷ []) zone
+last_version-grows moves m zone = ⊎_elim
+    (λ z. let more = last_version-same moves m zone z in omega arith)
+    (λ z. let more = last_version-other moves m zone z in omega arith)
+    (cases_eq m.move.zone zone)
+
+owner-same : (moves : List ZoneMove) (m : ZoneMove) (zone bit u : ℕ) → ((v : ℕ) → v ≤ u → is_at zone v m ≡ false) → owner (moves ++ m ∷ []) zone u bit ≡ owner moves zone u bit
+owner-same moves m zone bit zero out = refl
+owner-same moves m zone bit (suc u) out =
+    ap (λ o. owner_after o bit (owner (moves ++ m ∷ []) zone u bit)) (find-push_no (is_at zone (suc u)) moves m (out (suc u) (omega arith)))
+    ∙ ap (λ o. owner_after (find (is_at zone (suc u)) moves) bit o) (owner-same moves m zone bit u (λ v le. out v (omega arith)))
+
+-- who had a bit before is not changed by the next move
+pub owner-stable : (moves : List ZoneMove) (m : ZoneMove) (zone bit u : ℕ) → m.move.version ≡ last_version moves m.move.zone + 1 → u ≤ last_version moves zone → owner (moves ++ m ∷ []) zone u bit ≡ owner moves zone u bit
+owner-stable moves m zone bit u next le = owner-same moves m zone bit u (λ v low. ⊎_elim
+    (λ z. let same = ap (last_version moves) z in is_at-other_version zone v m (λ e. omega arith))
+    (λ z. is_at-other_zone zone v m z)
+    (cases_eq m.move.zone zone))
+
+-- no move has the next version yet
+not_yet : (number zones : ℕ) (moves : List ZoneMove) (zone : ℕ) → AllByRecursion (IsOwnMove number zones moves) moves → AllByRecursion (λ x. is_at zone (suc (last_version moves zone)) x ≡ false) moves
+not_yet number zones moves zone own = all_map (IsOwnMove number zones moves) (λ x. is_at zone (suc (last_version moves zone)) x ≡ false) moves
+    (λ x (mine : IsOwnMove number zones moves x). ⊎_elim
+    (λ z. let same = ap (last_version moves) z in let low = mine.version in is_at-other_version zone _ x (λ e. omega arith))
+    (λ z. is_at-other_zone zone _ x z)
+    (cases_eq x.move.zone zone))
+    own
+
+-- who has a bit after the next move
+pub owner-next : (number zones : ℕ) (moves : List ZoneMove) (m : ZoneMove) (bit : ℕ) → AllByRecursion (IsOwnMove number zones moves) moves → m.move.version ≡ last_version moves m.move.zone + 1 → owner (moves ++ m ∷ []) m.move.zone (last_version moves m.move.zone + 1) bit ≡ owner_after (Some m) bit (owner moves m.move.zone (last_version moves m.move.zone) bit)
+owner-next number zones moves m bit own next =
+    let zone : ℕ = m.move.zone in
+    let last : ℕ = last_version moves zone in
+    ap (λ u. owner (moves ++ m ∷ []) zone u bit) (add-one last)
+    ∙ ap (λ o. owner_after o bit (owner (moves ++ m ∷ []) zone last bit)) (find-push_first (is_at zone (suc last)) moves m (find-none _ moves (not_yet number zones moves zone own)) (is_at-true zone (suc last) m refl (omega arith)))
+    ∙ ap (λ o. owner_after (Some m) bit o) (owner-stable moves m zone bit last next (omega arith))
+
+-- ---- zone order
+
+once-push : (number zones : ℕ) (moves : List ZoneMove) (m : ZoneMove) → AllByRecursion (IsOwnMove number zones moves) moves → IsZoneOrder moves → m.move.version ≡ last_version moves m.move.zone + 1 → (zone version : ℕ) → 1 ≤ version → version ≤ last_version (moves ++ m ∷ []) zone → count_by (is_at zone version) (moves ++ m ∷ []) ≡ 1
+once-push number zones moves m own order next zone version low high = ⊎_elim
+    (λ z. let same = ap (last_version moves) z in let more = last_version-same moves m zone z in ⊎_elim
+    (λ v. let none : count_by (is_at zone version) moves ≡ 0 = subst (λ u. count_by (is_at zone u) moves ≡ 0) (let e : suc (last_version moves zone) ≡ version = omega arith in e) (count_by-none _ moves (not_yet number zones moves zone own)) in
+    let one = count_by-push_yes (is_at zone version) moves m (is_at-true zone version m z v) in omega arith)
+    (λ v. count_by-push_no (is_at zone version) moves m (is_at-other_version zone version m v) ∙ order.once zone version low (omega arith))
+    (cases_eq m.move.version version))
+    (λ z. let more = last_version-other moves m zone z in count_by-push_no (is_at zone version) moves m (is_at-other_zone zone version m z) ∙ order.once zone version low (omega arith))
+    (cases_eq m.move.zone zone)
+
+-- a lawful move stays lawful
+lawful-stable : (moves : List ZoneMove) (m x : ZoneMove) → m.move.version ≡ last_version moves m.move.zone + 1 → x.move.version ≤ last_version moves x.move.zone + 1 → IsLawfulMove moves x → IsLawfulMove (moves ++ m ∷ []) x
+lawful-stable moves m x next low lawful = record {
+  claim = λ t. record {
+    clear = λ bit from below. same bit ∙ (lawful.claim t).clear bit from below;
+    first = fit_of-same _ _ x.move.count (x.word % 32) (λ bit lt. ap is_some (same bit)) ∙ (lawful.claim t).first;
+  };
+  release = λ f bit from below. same bit ∙ lawful.release f bit from below;
+}
+  where
+    same : (bit : ℕ) → owner (moves ++ m ∷ []) x.move.zone (x.move.version - 1) bit ≡ owner moves x.move.zone (x.move.version - 1) bit
+    same bit = owner-stable moves m x.move.zone bit (x.move.version - 1) next (omega arith)
+
+pub order-push : (number zones : ℕ) (moves : List ZoneMove) (m : ZoneMove) → AllByRecursion (IsOwnMove number zones moves) moves → IsZoneOrder moves → m.move.version ≡ last_version moves m.move.zone + 1 → IsLawfulMove moves m → IsZoneOrder (moves ++ m ∷ [])
+order-push number zones moves m own order next lawful = record {
+  once = once-push number zones moves m own order next;
+  lawful = all_push (IsLawfulMove (moves ++ m ∷ [])) moves m
+      (all_both (IsOwnMove number zones moves) (IsLawfulMove moves) (IsLawfulMove (moves ++ m ∷ [])) moves
+      (λ x (mine : IsOwnMove number zones moves x) fine. let low = mine.version in lawful-stable moves m x next (omega arith) fine)
+      own order.lawful)
+      (lawful-stable moves m m next (omega arith) lawful);
+}

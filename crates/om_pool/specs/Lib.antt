@@ -1,0 +1,9 @@
+pub mod CoreKept
+pub mod FreeEntry
+pub mod LooksKept
+pub mod OptionTests
+pub mod PoolKept
+pub mod PoolView
+pub mod Served
+pub mod Zones
+pub mod ZoneStand

@@ -1,0 +1,20 @@
+-- What ties a table of zones to the moves that were made in them.
+use Rattle.std.specs.Prelude.{◌≡◌, ℕ, ◌<◌, ◌≤◌, List, length}
+use Rattle.std.specs.List.{AllByRecursion}
+use Rattle.std.specs.Option.{is_some}
+use Rattle.om_model.specs.ZoneOrder.{ZoneMove, IsZoneOrder, last_version, owner}
+use Rattle.om_pool.specs.Zones.{ZoneTable, is_held, version_of}
+
+-- a move of the pool, in a zone of so many, with a version that the zone has had
+pub record IsOwnMove (number zones : ℕ) (moves : List ZoneMove) (m : ZoneMove) : Type 0 where
+  pub pool : m.pool ≡ number
+  pub zone : m.move.zone < zones
+  pub version : m.move.version ≤ last_version moves m.move.zone
+
+-- The moves, all of them this pool's, are in zone order and leave the table.
+pub record Stands (pool : ℕ) (moves : List ZoneMove) (table : ZoneTable) : Type 0 where
+  pub order : IsZoneOrder moves
+  pub own : AllByRecursion (IsOwnMove pool (length table.bits) moves) moves
+  pub zones : length table.versions ≡ length table.bits
+  pub versions : (zone : ℕ) → zone < length table.bits → version_of table zone ≡ last_version moves zone
+  pub bits : (zone bit : ℕ) → zone < length table.bits → bit < 32 → is_held table zone bit ≡ is_some (owner moves zone (last_version moves zone) bit)

@@ -1,0 +1,73 @@
+-- The zones that one pool alone uses, as a table: which pages of each zone are held, and the version of
+-- each, which every claim and release in it raises by one.
+use Rattle.std.specs.Prelude.{◌≡◌, ℕ, ◌+◌, ◌-◌, ◌/◌, ◌%◌, ◌^◌, ◌<◌, Bool, ◌&&◌, ◌||◌, not, List, length, map, Option, Some, None, slice_index, slice_set}
+use Rattle.std.specs.List.{range_with_len}
+use Rattle.om_geom.specs.Fit.{fit_of, has_bit, is_in_run}
+use Rattle.om_model.specs.declared.looks.Look.{Look}
+use Rattle.om_model.specs.declared.entry.Move.{Move}
+
+-- one entry for each zone in each list
+pub record ZoneTable : Type 0 where
+  pub bits : List ℕ
+  pub versions : List ℕ
+
+-- whether the page of the zone is held
+abbrev pub is_held : ZoneTable → ℕ → ℕ → Bool
+is_held table zone = has_bit (slice_index table.bits zone)
+
+-- the same of a page's number
+abbrev pub is_page_held : ZoneTable → ℕ → Bool
+is_page_held table page = is_held table (page / 32) (page % 32)
+
+abbrev pub version_of : ZoneTable → ℕ → ℕ
+version_of table zone = slice_index table.versions zone
+
+-- a search by a word begins at the zone that the word names, and goes on cyclically
+abbrev pub zone_of : ZoneTable → ℕ → ℕ → ℕ
+zone_of table word i = (word / 32 + i) % length table.bits
+
+-- the look at the zone where a search comes after so many others
+abbrev pub look_of : ZoneTable → ℕ → ℕ → Look
+look_of table word i = record { zone = zone_of table word i; version = version_of table (zone_of table word i) }
+
+-- where so many pages fit in the zone
+abbrev pub fit_in : ZoneTable → ℕ → ℕ → ℕ → Option ℕ
+fit_in table n word zone = fit_of (is_held table zone) n (word % 32)
+
+-- the looks are at the zones that come first, and in none of these the pages fit
+pub record ArePassed (table : ZoneTable) (n word : ℕ) (looks : List Look) : Type 0 where
+  pub named : looks ≡ map (look_of table word) (range_with_len 0 (length looks))
+  pub full : (i : ℕ) → i < length looks → fit_in table n word (zone_of table word i) ≡ None
+
+-- no version can run out at the next move
+abbrev pub CanMove : ZoneTable → Type 0
+CanMove table = (zone : ℕ) → zone < length table.bits → version_of table zone < 2 ^ 32 - 1
+
+-- at most the zone's bits are others, and its version is the next
+pub record IsMoved (old new : ZoneTable) (zone : ℕ) : Type 0 where
+  pub bits : new.bits ≡ slice_set old.bits zone (slice_index new.bits zone)
+  pub versions : new.versions ≡ slice_set old.versions zone (version_of old zone + 1)
+
+-- the claim is in the zone after those that were passed over, on the pages that fit there
+pub record IsClaimed (old new : ZoneTable) (n word passed : ℕ) (move : Move) : Type 0 where
+  pub few : passed < length old.bits
+  pub zone : move.zone ≡ zone_of old word passed
+  pub first : fit_in old n word move.zone ≡ Some move.first
+  pub count : move.count ≡ n
+  pub version : move.version ≡ version_of old move.zone + 1
+  pub moved : IsMoved old new move.zone
+  pub held : (bit : ℕ) → bit < 32 → is_held new move.zone bit ≡ (is_held old move.zone bit || is_in_run move.first move.count bit)
+
+-- with no claim every zone was passed over, and none has changed
+abbrev pub ClaimGives : ZoneTable → ZoneTable → ℕ → ℕ → ℕ → Option Move → Type 0
+ClaimGives old new n word passed None = (passed ≡ length old.bits) × (new ≡ old)
+ClaimGives old new n word passed (Some move) = IsClaimed old new n word passed move
+
+-- so many pages from that of the number on are given up
+pub record IsReleased (old new : ZoneTable) (page n : ℕ) (move : Move) : Type 0 where
+  pub zone : move.zone ≡ page / 32
+  pub first : move.first ≡ page % 32
+  pub count : move.count ≡ n
+  pub version : move.version ≡ version_of old move.zone + 1
+  pub moved : IsMoved old new move.zone
+  pub held : (bit : ℕ) → bit < 32 → is_held new move.zone bit ≡ (is_held old move.zone bit && not (is_in_run move.first move.count bit))

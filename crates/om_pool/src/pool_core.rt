@@ -1,0 +1,291 @@
+//! The state of a pool with its zones and its journal, and the steps of its calls.
+ghost use Rattle.std.specs.Prelude.{◌≡◌, ◌+◌, ◌%◌, ◌-◌, ◌^◌, ◌<◌, ◌≤◌, false, IsTrue, [], ◌∷◌, ◌++◌, length, slice_index, vec_len, vec_capacity, Some, None, IsSome, IfSome, unwrap_or, All, filter, nat_lt, IfOk, OnOk};
+ghost use Rattle.om_geom.specs.Classes.{class_of, is_class};
+ghost use Rattle.om_model.specs.Rules.{word_at};
+ghost use Rattle.om_model.specs.PoolState.{opening, places_in, places, with_page};
+ghost use Rattle.om_model.specs.Picks.{own_page, picked_place, place_address};
+ghost use Rattle.om_pool.specs.PoolKept.{Ascends, is_page_among};
+ghost use Rattle.om_pool.specs.CoreKept.{rules_in, state_in, IsCore, HasRoom, Adds};
+ghost use Rattle.om_pool.specs.Served.{IsServed, first_word};
+ghost use Rattle.om_pool.specs.Zones.{CanMove, ArePassed, ClaimGives};
+
+use crate::places::{choose_page, pick_place, place_start};
+use crate::zones::Zones;
+use om_geom::class_of;
+use om_model::{
+    Block, CallEntry, Drawn, Entry, Journal, LookList, Move, Op, Place, Reply, Who, Why,
+};
+use std::alloc::{AllocError, Global};
+
+/// What a pool keeps. The held pages ascend; a slot has a delayed place or nothing.
+#[derive(Drop)]
+pub(crate) struct Core {
+    pub(crate) alloc: Global,
+    pub(crate) words: Vec<u32>,
+    pub(crate) drawn: u64,
+    pub(crate) held: Vec<u32>,
+    pub(crate) live: Vec<Block>,
+    pub(crate) slots: [Option<Place>; 16],
+    pub(crate) zones: Zones,
+    /// An empty list with room for a look at each zone, until a search fills it.
+    pub(crate) room: Option<LookList>,
+    pub(crate) journal: Journal,
+}
+
+/// What a search of the zones gave: the claim, and the looks at the zones that it passed over.
+#[derive(Drop)]
+struct Search {
+    claim: Option<Move>,
+    looks: LookList,
+}
+
+impl Core {
+    /// A core that holds nothing, and draws these words. The canary byte takes the first.
+    pub(crate) fn new(alloc: Global, words: Vec<u32>) -> Result<Core, AllocError>
+        requires { 0 < vec_len words }
+        ensures kept { IfOk result (λ core. IsCore core) }
+        ensures words { IfOk result (λ core. core.words ≡ words) }
+        ensures state { IfOk result (λ core. state_in core ≡ opening) }
+        ensures entries { IfOk result (λ core. core.journal.items ≡ []) }
+    {
+        Ok(Core {
+            alloc,
+            words,
+            drawn: 1,
+            held: Vec::new(alloc),
+            live: Vec::new(alloc),
+            slots: [None; 16],
+            zones: Zones::new(alloc, 64)?,
+            room: None,
+            journal: Journal::new(alloc),
+        })
+    }
+
+    /// Makes room for what one call may add.
+    pub(crate) fn reserve(&mut self) -> Result<(), AllocError>
+        requires kept { IsCore self.old }
+        requires short { length self.old.journal.items < 2 ^ 32 - 1 }
+        ensures kept { IsCore self.new }
+        ensures room { OnOk result (HasRoom self.new) }
+        ensures words { self.new.words ≡ self.old.words }
+        ensures state { state_in self.new ≡ state_in self.old }
+        ensures entries { self.new.journal.items ≡ self.old.journal.items }
+    {
+        self.journal.reserve()?;
+        self.held.reserve(1)?;
+        self.live.reserve(1)?;
+        if self.room.is_none() {
+            self.room = Some(LookList::with_room(self.alloc, 64)?);
+        }
+        Ok(())
+    }
+
+    /// Word `i` of this pool.
+    pub(crate) fn word(&self, i: u64) -> u32
+        requires { 0 < vec_len self.now.words }
+        ensures { result ≡ slice_index self.now.words.items (i % length self.now.words.items) }
+    {
+        self.words[(i % self.words.len() as u64) as usize]
+    }
+
+    /// Adds a live block on the page, at the free place that the word chooses, and gives its address.
+    pub(crate) fn give(&mut self, page: u32, class: u32, word: u32, size: u64, site: u64) -> u64
+        requires page { page < 2048 }
+        requires class { IsTrue (is_class class) }
+        requires room { vec_len self.old.live < vec_capacity self.old.live }
+        ensures address { result ≡ place_address page class (unwrap_or (picked_place (places_in false self.old.live.items self.old.slots) page class word) 0) }
+        ensures live { self.new.live.items ≡ self.old.live.items ++ record { address = result; size = size; site = site } ∷ [] }
+        ensures same { self.new ≡ record self.old { live = self.new.live } }
+    {
+        let place = pick_place(&self.live, &self.slots, page, class, word).unwrap_or(0);
+        let address = place_start(page, class, place);
+        match self.live.push(Block {
+            address,
+            size,
+            site,
+        }) {
+            Ok(()) => {}
+            Err(_) => unreachable!(),
+        }
+        address
+    }
+
+    /// Adds a page to the held ones, which ascend.
+    pub(crate) fn hold(&mut self, page: u32)
+        requires room { vec_len self.old.held < vec_capacity self.old.held }
+        requires ascends { Ascends self.old.held.items }
+        requires fresh { is_page_among self.old.held.items page ≡ false }
+        ensures held { self.new.held.items ≡ with_page page self.old.held.items }
+        ensures same { self.new ≡ record self.old { held = self.new.held } }
+    {
+        let before = count_below(&self.held, page);
+        match self.held.insert(before, page) {
+            Ok(()) => {}
+            Err(_) => unreachable!(),
+        }
+    }
+
+    /// Adds an entry to the journal.
+    pub(crate) fn enter(&mut self, entry: CallEntry)
+        requires short { length self.old.journal.items < 2 ^ 32 - 1 }
+        requires room { 1 ≤ self.old.journal.spare }
+        ensures added { self.new.journal.items ≡ self.old.journal.items ++ Entry.Call entry ∷ [] }
+        ensures same { self.new ≡ record self.old { journal = self.new.journal } }
+    {
+        self.journal.push(Entry::Call(entry));
+    }
+
+    /// The two words of an allocation.
+    fn two_words(&self) -> Drawn
+        requires some { 0 < vec_len self.now.words }
+        requires few { self.now.drawn < 2 ^ 40 }
+        ensures { result ≡ word_at (rules_in self.now) self.now.drawn ∷ word_at (rules_in self.now) (self.now.drawn + 1) ∷ [] }
+    {
+        let mut words = Drawn::empty();
+        words.push(self.word(self.drawn));
+        words.push(self.word(self.drawn + 1));
+        words
+    }
+
+    /// An allocation on a page that the pool has.
+    fn malloc_on(&mut self, who: Who, class: u32, page: u32, size: u64, site: u64) -> Reply
+        requires kept { IsCore self.old }
+        requires room { HasRoom self.old }
+        requires served { IsServed (rules_in self.old) size class }
+        requires own { own_page (places (rules_in self.old) (state_in self.old)) self.old.held.items class (first_word (rules_in self.old) (state_in self.old)) ≡ Some page }
+        ensures kept { IsCore self.new }
+        ensures added { Adds self.old self.new who (Op.Malloc size site) result }
+    {
+        let words = self.two_words();
+        let second = self.word(self.drawn + 1);
+        let address = self.give(page, class, second, size, site);
+        self.drawn += 2;
+        let reply = Reply::Block(address);
+        self.enter(CallEntry {
+            who,
+            op: Op::Malloc { size, site },
+            reply,
+            words,
+            looks: LookList::empty(self.alloc),
+            taken: None,
+            claim: None,
+            release: None,
+        });
+        reply
+    }
+
+    /// Asks the zones for a page by the word. The room for looks is used up where a zone was passed over.
+    fn search(&mut self, word: u32) -> Search
+        requires room { IsSome self.old.room }
+        requires empty { IfSome self.old.room (λ looks. (looks.items ≡ []) × (64 ≤ looks.spare)) }
+        requires zones { length self.old.zones.bits ≤ 64 }
+        requires versions { CanMove self.old.zones }
+        ensures passed { ArePassed self.old.zones 1 word result.looks.items }
+        ensures claim { ClaimGives self.old.zones self.new.zones 1 word (length result.looks.items) result.claim }
+        ensures empty { IfSome self.new.room (λ looks. (looks.items ≡ []) × (64 ≤ looks.spare)) }
+        ensures same { self.new ≡ record (record self.old { zones = self.new.zones }) { room = self.new.room } }
+    {
+        let mut looks = match self.room.take() {
+            Some(looks) => looks,
+            None => unreachable!(),
+        };
+        let claim = self.zones.claim(1, word, &mut looks);
+        if looks.is_empty() {
+            self.room = Some(looks);
+            Search {
+                claim,
+                looks: LookList::empty(self.alloc),
+            }
+        } else {
+            Search { claim, looks }
+        }
+    }
+
+    /// An allocation for which the pool has no page.
+    fn malloc_claimed(&mut self, who: Who, class: u32, size: u64, site: u64) -> Reply
+        requires kept { IsCore self.old }
+        requires room { HasRoom self.old }
+        requires served { IsServed (rules_in self.old) size class }
+        requires own { own_page (places (rules_in self.old) (state_in self.old)) self.old.held.items class (first_word (rules_in self.old) (state_in self.old)) ≡ None }
+        ensures kept { IsCore self.new }
+        ensures added { Adds self.old self.new who (Op.Malloc size site) result }
+    {
+        let words = self.two_words();
+        let first = self.word(self.drawn);
+        let second = self.word(self.drawn + 1);
+        let Search { claim, looks } = self.search(first);
+        match claim {
+            Some(found) => {
+                let page = 32 * found.zone + found.first;
+                self.hold(page);
+                let address = self.give(page, class, second, size, site);
+                self.drawn += 2;
+                let reply = Reply::Block(address);
+                self.enter(CallEntry {
+                    who,
+                    op: Op::Malloc { size, site },
+                    reply,
+                    words,
+                    looks,
+                    taken: None,
+                    claim,
+                    release: None,
+                });
+                reply
+            }
+            None => {
+                self.drawn += 2;
+                let reply = Reply::Null(Why::NoRun);
+                self.enter(CallEntry {
+                    who,
+                    op: Op::Malloc { size, site },
+                    reply,
+                    words,
+                    looks,
+                    taken: None,
+                    claim,
+                    release: None,
+                });
+                reply
+            }
+        }
+    }
+
+    /// Allocates, as in malloc(3), `size` bytes.
+    pub(crate) fn malloc(&mut self, who: Who, size: u64, site: u64) -> Reply
+        requires kept { IsCore self.old }
+        requires room { HasRoom self.old }
+        requires some { 1 ≤ size }
+        requires small { size ≤ 2048 }
+        ensures kept { IsCore self.new }
+        ensures added { Adds self.old self.new who (Op.Malloc size site) result }
+    {
+        let class = served(size);
+        let word = self.word(self.drawn);
+        match choose_page(&self.live, &self.slots, &self.held, class, word) {
+            Some(page) => self.malloc_on(who, class, page, size, site),
+            None => self.malloc_claimed(who, class, size, site),
+        }
+    }
+}
+
+// How many of the pages are below this one.
+fn count_below(pages: &[u32], page: u32) -> usize
+    ensures count { result ≡ length (filter (λ other. nat_lt other page) pages.now) }
+    ensures within { result ≤ length pages.now }
+{
+    pages.iter().filter(|other| **other < page).count()
+}
+
+// The class of a size that a pool serves without canaries.
+fn served(size: u64) -> u32
+    requires some { 1 ≤ size }
+    requires small { size ≤ 2048 }
+    ensures class { class_of size false ≡ Some result }
+    ensures is { IsTrue (is_class result) }
+{
+    match class_of(size, false) {
+        Some(class) => class.0,
+        None => unreachable!(),
+    }
+}

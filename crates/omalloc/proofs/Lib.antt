@@ -1,0 +1,10 @@
+pub mod TextCuts
+pub mod TextNames
+pub mod TextForm
+pub mod HexDigits
+pub mod Parts
+pub mod RunLaws
+pub mod TopLaws
+pub mod AddsLaws
+pub mod Titles
+pub mod WholeText

@@ -1,0 +1,17 @@
+use Rattle.std.proofs.Common.{◌≡◌, ◌+◌, ◌≤◌, length, vec_len, drop, replicate, false, [], ◌∷◌}
+use Rattle.std.specs.List.{list_any}
+use Rattle.om_model.specs.ScriptRun.{run_from, is_fault}
+use Rattle.om_pool.specs.PoolView.{lone_rules}
+use Rattle.omalloc.proofs.RunLaws.{IsPart}
+use Rattle.omalloc.proofs.run.run_script.Given as goal
+
+abbrev pub invariant-loop-i : goal.invariant-loop-i
+invariant-loop-i g l = record {
+  items : l.command-items ≡ l.script.commands;
+  rules : l.pool.rules ≡ lone_rules (0 ∷ []);
+  variables : vec_len l.values ≡ length l.script.names;
+  outcomes : length l.transcript ≡ l.i;
+  entries : length l.pool.journal.items ≤ l.i;
+  fine : list_any is_fault l.transcript ≡ false;
+  part : IsPart (run_from 1 (replicate (length l.script.names) 0) l.script.commands) (run_from (l.i + 1) l.values.items (drop l.i l.command-items)) l.pool.journal.items l.transcript;
+}

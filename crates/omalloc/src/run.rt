@@ -1,0 +1,117 @@
+//! A script on a pool of its own.
+ghost use Rattle.std.specs.Prelude.{◌≡◌, ℕ, ◌+◌, ◌-◌, ◌^◌, ◌<◌, ◌≤◌, length, vec_len, IfOk, true};
+ghost use Rattle.std.specs.List.{list_any};
+ghost use Rattle.om_model.specs.ScriptRun.{outcome_of, is_fault, given};
+ghost use Rattle.om_pool.specs.PoolView.{PoolView};
+ghost use Rattle.omalloc.specs.Run.{IsCommandRun, RanAlone};
+ghost use Rattle.omalloc.specs.Script.{IsScript, IsCommand};
+
+use crate::script::Script;
+use om_geom::Addr;
+use om_model::{Command, Fault, Op, Outcome, Reply, Transcript, Who};
+use om_pool::Pool;
+use std::alloc::{AllocError, Global};
+use std::sync::Wait;
+
+/// A pool after a script, and the outcomes of the script's commands.
+#[derive(Drop)]
+pub struct Run {
+    pub pool: Pool,
+    pub transcript: Transcript,
+    /// A command met a fault.
+    pub faulted: bool,
+}
+
+fn outcome_of(reply: Reply) -> Outcome
+    ensures malloc { (size site : ℕ) → result ≡ outcome_of (Op.Malloc size site) reply }
+    ensures free { (addr : ℕ) → result ≡ outcome_of (Op.Free addr) reply }
+{
+    match reply {
+        Reply::Block(address) => Outcome::Block(address),
+        Reply::Null(why) => Outcome::Null(why),
+        Reply::Done => Outcome::Done,
+        Reply::Byte(byte) => Outcome::Byte(byte),
+        Reply::Miss => Outcome::Fault(Fault::Bogus),
+        Reply::Fault(fault) => Outcome::Fault(fault),
+    }
+}
+
+fn given(outcome: Outcome) -> u64
+    ensures { result ≡ given outcome }
+{
+    match outcome {
+        Outcome::Block(address) => address,
+        _ => 0,
+    }
+}
+
+fn is_fault(outcome: Outcome) -> bool
+    ensures { result ≡ is_fault outcome }
+{
+    matches!(outcome, Outcome::Fault(_))
+}
+
+// One command of the only script, asked of the only pool.
+fn run_command<R: Wait>(
+    rt: &R,
+    pool: &mut Pool,
+    values: &mut Vec<u64>,
+    number: u32,
+    command: Command,
+) -> Result<Outcome, AllocError>
+    requires short { length pool.old.journal.items < 2 ^ 32 - 1 }
+    requires form { IsCommand (vec_len values.old) command }
+    ensures ran { IfOk result (λ outcome. IsCommandRun number command values.old.items values.new.items pool.old.journal.items pool.new.journal.items outcome) }
+    ensures rules { pool.new.rules ≡ pool.old.rules }
+    ensures entries { length pool.new.journal.items ≤ length pool.old.journal.items + 1 }
+    ensures variables { vec_len values.new ≡ vec_len values.old }
+{
+    let who = Who {
+        caller: 0,
+        command: number,
+        hop: 0,
+    };
+    match command {
+        Command::Malloc { var, size, site } => {
+            pool.reserve()?;
+            let outcome = outcome_of(pool.malloc(rt, who, size, site));
+            values[var as usize] = given(outcome);
+            Ok(outcome)
+        }
+        Command::Free { var } => {
+            let addr = values[var as usize];
+            if addr == 0 {
+                return Ok(Outcome::Done);
+            }
+            pool.reserve()?;
+            Ok(outcome_of(pool.free(rt, who, Addr(addr))))
+        }
+    }
+}
+
+/// Runs the script on a new pool, over the one listed word 0.
+pub fn run_script<R: Wait>(rt: &R, alloc: Global, script: &Script) -> Result<Run, AllocError>
+    requires { IsScript script.now }
+    ensures ran { IfOk result (λ run. RanAlone script.now run.pool run.transcript) }
+    ensures faulted { IfOk result (λ run. run.faulted ≡ list_any is_fault run.transcript) }
+{
+    let mut pool = Pool::start(alloc, vec![in alloc; 0]?)?;
+    let mut values = vec![in alloc; 0u64; script.variables()]?;
+    let mut transcript = Transcript::new(alloc);
+    for (i, command) in script.commands().iter().enumerate() {
+        let outcome = run_command(rt, &mut pool, &mut values, i as u32 + 1, *command)?;
+        transcript.push(outcome)?;
+        if is_fault(outcome) {
+            return Ok(Run {
+                pool,
+                transcript,
+                faulted: true,
+            });
+        }
+    }
+    Ok(Run {
+        pool,
+        transcript,
+        faulted: false,
+    })
+}
