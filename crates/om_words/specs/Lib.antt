@@ -1,0 +1,3 @@
+pub mod DrawnWords
+pub mod Origins
+pub mod PlannedWords
