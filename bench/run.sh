@@ -1,7 +1,10 @@
 #!/usr/bin/env bash
 # Runs the built program on scripts of 2,000, 20,000 and 200,000 commands, prints time and memory for each
-# command, and says whether the bounds hold. Status 1 where one doesn't.
+# command, and says whether the bounds hold. Status 1 where one doesn't. The command words are those given, or
+# `run -w 0`.
 set -euo pipefail
+words=("$@")
+if [[ $# == 0 ]]; then words=(run -w 0); fi
 top=$(dirname -- "$(readlink -f -- "${BASH_SOURCE[0]}")")/..
 program=$top/crates/omalloc/out/omalloc
 scratch=$(mktemp -d)
@@ -15,7 +18,7 @@ micros_of() {
     local best= began took
     for _ in 1 2 3 4 5; do
         began=${EPOCHREALTIME//[!0-9]/}
-        "$program" run -w 0 <"$1" >/dev/null
+        "$program" "${words[@]}" <"$1" >/dev/null
         took=$((${EPOCHREALTIME//[!0-9]/} - began))
         if [[ -z $best || $took -lt $best ]]; then best=$took; fi
     done
@@ -25,12 +28,12 @@ micros_of() {
 # The most memory that a run has at one time, in KiB.
 peak_of() {
     if [[ -x /usr/bin/time ]]; then
-        /usr/bin/time -f %M -o "$scratch/peak" "$program" run -w 0 <"$1" >/dev/null
+        /usr/bin/time -f %M -o "$scratch/peak" "$program" "${words[@]}" <"$1" >/dev/null
         cat "$scratch/peak"
     else
         python3 -c 'import resource, subprocess, sys
 subprocess.run(sys.argv[1:], check=True, stdout=subprocess.DEVNULL)
-print(resource.getrusage(resource.RUSAGE_CHILDREN).ru_maxrss)' "$program" run -w 0 <"$1"
+print(resource.getrusage(resource.RUSAGE_CHILDREN).ru_maxrss)' "$program" "${words[@]}" <"$1"
     fi
 }
 
@@ -43,7 +46,7 @@ printf '%10s %12s %16s %10s %18s\n' commands us us/command KiB bytes/command
 for commands in 2000 20000 200000; do
     input=$scratch/$commands
     python3 "$top/bench/make_input" "$commands" >"$input"
-    if [[ $("$program" run -w 0 <"$input" | tail -n 1) != done ]]; then
+    if [[ $("$program" "${words[@]}" <"$input" | tail -n 1) != done ]]; then
         echo "the run of $commands commands didn't write its whole output"
         exit 1
     fi

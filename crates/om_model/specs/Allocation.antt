@@ -1,11 +1,14 @@
 -- Allocation of a chunk: two words are drawn, the first for the page and the second for the place.
-use Rattle.std.specs.Prelude.{ℕ, ◌+◌, [], ◌∷◌, ◌++◌, Option, Some, None, unwrap_or}
+use Rattle.std.specs.Prelude.{ℕ, ◌+◌, [], ◌∷◌, ◌++◌, Option, Some, None, unwrap_or, if◌then◌else◌}
 use Rattle.om_model.specs.Rules.{Rules, word_at}
 use Rattle.om_model.specs.PoolState.{State, places, with_page}
 use Rattle.om_model.specs.Picks.{own_page, picked_place, place_address}
 use Rattle.om_model.specs.Steps.{Step, run_of, Wish}
 use Rattle.om_model.specs.declared.entry.Move.{Move}
+use Rattle.om_model.specs.declared.reply.Reply.{Reply}
 use Rattle.om_model.specs.declared.reply.Reply.TheVariants as reply
+use Rattle.om_model.specs.declared.reply.Fault.TheVariants.{OutOfMemory}
+use Rattle.om_model.specs.declared.reply.Why.{Why}
 use Rattle.om_model.specs.declared.reply.Why.TheVariants.{NoRun}
 
 -- a page is claimed only where the pool has none
@@ -31,9 +34,13 @@ placed rules state page class word size site =
       next = record state { live = state.live ++ record { address = address; size = size; site = site } ∷ [] };
     }
 
+-- a null, or where the option says so the fault in its place
+abbrev pub null_or_fault : Rules → Why → Reply
+null_or_fault rules why = if rules.options.xmalloc then reply.Fault (OutOfMemory why) else reply.Null why
+
 -- the page of a claim joins the held pages
 abbrev pub placed_on_claim : Rules → State → Option Move → ℕ → ℕ → ℕ → ℕ → Step
-placed_on_claim rules state None class word size site = record { reply = reply.Null NoRun; words = 2; release = None; next = state }
+placed_on_claim rules state None class word size site = record { reply = null_or_fault rules NoRun; words = 2; release = None; next = state }
 placed_on_claim rules state (Some move) class word size site =
     let page = (run_of move).first in
     placed rules (record state { held = with_page page state.held }) page class word size site

@@ -3,7 +3,11 @@
 use Rattle.std.specs.Prelude.{ℕ, ◌+◌, ◌/◌, ◌%◌, Bool, false, List, [], ◌∷◌, ◌++◌, length, map, Option, Some, None, if◌then◌else◌, codes}
 use Rattle.std.specs.List.{flat_map, enumerate_from, position, join_with_byte}
 use Rattle.std.specs.Fmt.{decimal, digits, digit_glyph}
-use Rattle.om_model.specs.Rules.{Options, Rules, canary_byte}
+use Rattle.om_opts.specs.declared.options.Opts.{Opts}
+use Rattle.om_words.specs.PlannedWords.{source_for}
+use Rattle.om_words.specs.declared.plan.WordPlan.{WordPlan}
+use Rattle.om_words.specs.declared.plan.WordPlan.TheVariants.{Listed, Seeded}
+use Rattle.om_model.specs.Rules.{Rules, canary_byte}
 use Rattle.om_model.specs.ScriptRun.{is_fault}
 use Rattle.om_model.specs.declared.looks.Look.{Look}
 use Rattle.om_model.specs.declared.entry.Move.{Move}
@@ -128,12 +132,12 @@ board_entry_text (posted.Take caller command cell (Some value)) = decimal caller
 board_entry_text (posted.Take caller command cell None) = decimal caller ++ codes " " ++ decimal command ++ codes " take " ++ decimal cell ++ codes " = empty"
 board_entry_text (posted.Phase number) = codes "phase " ++ decimal number
 
--- what the output begins with: options, zones, the listed words, and the bytes of the letters that have no
--- meaning
+-- what the output begins with: options, zones, the plan of the words, and the bytes of the letters that
+-- have no meaning
 pub record Head : Type 0 where
-  pub options : Options
+  pub options : Opts
   pub zones : ℕ
-  pub words : List ℕ
+  pub plan : WordPlan
   pub warned : List ℕ
 
 -- a script's name and the outcomes of its commands
@@ -149,14 +153,19 @@ pub record Content : Type 0 where
 
 -- the rules of a pool under a head
 abbrev pub rules_of : Head → ℕ → Rules
-rules_of head pool = record { options = head.options; zones = head.zones; words = head.words; pool = pool }
+rules_of head pool = record { options = head.options; zones = head.zones; words = source_for head.plan pool; pool = pool }
 
 abbrev pub flag : Bool → ℕ → ℕ
 flag on letter = if on then letter else 45
 
 -- the letters C, F, G, R, U, X, D, each where its option is on, and else -
-abbrev pub flags_text : Options → List ℕ
+abbrev pub flags_text : Opts → List ℕ
 flags_text o = flag o.canary 67 ∷ flag o.freecheck 70 ∷ flag o.guard 71 ∷ flag o.always_move 82 ∷ flag o.unmap 85 ∷ flag o.xmalloc 88 ∷ flag o.dump 68 ∷ []
+
+-- the listed words with commas between them, or the seed
+abbrev pub plan_text : WordPlan → List ℕ
+plan_text (Listed words) = codes "list " ++ join_with_byte 44 (map decimal words)
+plan_text (Seeded seed) = codes "seed " ++ decimal seed
 
 abbrev pub warning_line : ℕ → List ℕ
 warning_line byte = codes "warning unknown option 0x" ++ byte_text byte
@@ -165,7 +174,7 @@ unfoldable pub head_lines : Head → List (List ℕ)
 head_lines head =
     codes "omalloc 1"
     ∷ (codes "zones " ++ decimal head.zones ++ codes " pools " ++ decimal head.options.pools ++ codes " flags " ++ flags_text head.options ++ codes " junk " ++ decimal head.options.junk ++ codes " cache " ++ decimal head.options.cache)
-    ∷ (codes "words list " ++ join_with_byte 44 (map decimal head.words))
+    ∷ (codes "words " ++ plan_text head.plan)
     ∷ map warning_line head.warned
 
 abbrev pub pool_title : Head → ℕ → ℕ → List ℕ

@@ -1,11 +1,11 @@
 -- A pool at its start, and what a core that is kept says of the pool.
-use Rattle.std.proofs.Common.{◌≡◌, ℕ, ◌/◌, ◌%◌, ◌<◌, false, zero, suc, [], length, replicate, None, refl, ap, ◌∙◌, arith, vec_len}
+use Rattle.std.proofs.Common.{◌≡◌, ℕ, ◌/◌, ◌%◌, false, zero, suc, [], length, replicate, None, refl, ap, ◌∙◌, arith}
 use Rattle.std.specs.Prelude.{slice_index}
 use Rattle.std.specs.List.{AllByRecursion}
 use Rattle.std.proofs.lemmas.List.{length-replicate}
 use Rattle.om_geom.specs.Fit.{has_bit}
 use Rattle.om_geom.specs.BitLaws.{has_bit-zero}
-use Rattle.om_model.specs.Rules.{Rules}
+use Rattle.om_model.specs.Rules.{Rules, canary_byte}
 use Rattle.om_model.specs.PoolState.{opening}
 use Rattle.om_pool.specs.Zones.{ZoneTable, is_page_held}
 use Rattle.om_pool.specs.PoolKept.{IsKept, IsSlotOn}
@@ -56,9 +56,9 @@ view_of core = record { rules = rules_in core; state = state_in core; journal = 
 pub run-of : (core : Core) → IsCore core → IsRun (view_of core)
 run-of core is = record { lawful = is.kept.lawful; left = is.kept.left; order = (is.kept.stands).order; looks = (is.kept.looked).looks }
 
-pub core-new : (core : Core) → state_in core ≡ opening → core.journal.items ≡ [] → (core.zones).bits ≡ replicate 64 0 → (core.zones).versions ≡ replicate 64 0 → core.room ≡ None → 0 < vec_len core.words → IsCore core
-core-new core state journal bits versions room words = record {
+pub core-new : (core : Core) → state_in core ≡ opening → core.journal.items ≡ [] → (core.zones).bits ≡ replicate 64 0 → (core.zones).versions ≡ replicate 64 0 → core.room ≡ None → core.canary ≡ canary_byte (rules_in core) → IsCore core
+core-new core state journal bits versions room canary = record {
   kept = core-kept core (rules_in core) opening [] core.zones refl state journal refl (kept-new (rules_in core) core.zones bits versions);
   room = rw room tt;
-  words = words;
+  canary = canary;
 }

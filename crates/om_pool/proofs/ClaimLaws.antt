@@ -12,7 +12,7 @@ use Rattle.om_model.specs.Rules.{Rules}
 use Rattle.om_model.specs.PoolState.{State, places, with_page}
 use Rattle.om_model.specs.Picks.{own_page}
 use Rattle.om_model.specs.Steps.{Step, Wish, run_of}
-use Rattle.om_model.specs.Allocation.{with_two_drawn, placed, placed_on_claim}
+use Rattle.om_model.specs.Allocation.{with_two_drawn, placed, placed_on_claim, null_or_fault}
 use Rattle.om_model.specs.LawfulJournal.{wish_of, step_of, answers_of, EndsSearch, MayAnswer}
 use Rattle.om_model.specs.ZoneOrder.{ZoneMove, searched_by, moves_of, moves_of_call}
 use Rattle.om_model.specs.declared.entry.Move.{Move}
@@ -20,7 +20,6 @@ use Rattle.om_model.specs.declared.entry.CallEntry.{CallEntry}
 use Rattle.om_model.specs.declared.entry.Entry.{Entry}
 use Rattle.om_model.specs.declared.entry.Entry.TheVariants.{Call}
 use Rattle.om_model.specs.declared.block.Place.{Place}
-use Rattle.om_model.specs.declared.reply.Reply.TheVariants.{Null}
 use Rattle.om_model.specs.declared.reply.Why.TheVariants.{NoRun}
 use Rattle.om_pool.specs.Zones.{ZoneTable, is_page_held, ArePassed, IsClaimed}
 use Rattle.om_pool.specs.ZoneStand.{Stands}
@@ -161,18 +160,18 @@ claimed-kept rules state entries old new entry size site class move kept zones s
     (rw (placed-drawn rules (on_claim state move) page class (second_word rules state) size site) (omega arith))
     (placed-formed rules (on_claim state move) new page class (second_word rules state) size site served (with_page-self page state.held) (formed-claimed rules state old new word (length entry.looks.items) move kept.formed claimed))
 
-formed-drawn : (rules : Rules) (state : State) (table : ZoneTable) → FitsTable rules state table → FitsTable rules (with_two_drawn state) table
+pub formed-drawn : (rules : Rules) (state : State) (table : ZoneTable) → FitsTable rules state table → FitsTable rules (with_two_drawn state) table
 formed-drawn rules state table formed = record { zones = formed.zones; slots = formed.slots; ascends = formed.ascends; arena = formed.arena; held = formed.held; live_on = formed.live_on; slots_on = formed.slots_on }
 
 -- An allocation for which no zone has a clear page.
 pub refused-kept : (rules : Rules) (state : State) (entries : List Entry) (table : ZoneTable) (entry : CallEntry) (size site class : ℕ)
     → IsKept rules state entries table → rules.zones ≡ 64 → IsServed rules size class → own_page (places rules state) state.held class (first_word rules state) ≡ None
     → ArePassed table 1 (first_word rules state) entry.looks.items → length entry.looks.items ≡ length table.bits
-    → IsMallocEntry rules state entry size site None (Null NoRun)
+    → IsMallocEntry rules state entry size site None (null_or_fault rules NoRun)
     → IsKept rules (with_two_drawn state) (entries ++ Call entry ∷ []) table
 refused-kept rules state entries table entry size site class kept zones served own passed all is =
     let word = first_word rules state in
-    let step : Step = record { reply = Null NoRun; words = 2; release = None; next = with_two_drawn state } in
+    let step : Step = record { reply = null_or_fault rules NoRun; words = 2; release = None; next = with_two_drawn state } in
     let same : length table.bits ≡ rules.zones = (kept.formed).zones ∙ sym zones in
     let wish : wish_of rules state entry.op ≡ Some (record { count = 1; word = word }) = ap (wish_of rules state) is.op ∙ wish-is rules state size site class served ∙ wish-none rules state class own in
     let MayAnswerNow : Option Wish → Type 0 = λ w. MayAnswer rules state w (answers_of entry) in

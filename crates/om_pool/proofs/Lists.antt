@@ -29,18 +29,18 @@ find-filter_map test f (x ∷ xs) =
     ]) refl
 
 -- a test of the places in use, as a test of the blocks and of the slots
-pub list_any-places : (test : Place → Bool) (live : List Block) (slots : List (Option Place)) → list_any test (places_in false live slots) ≡ (list_any (λ block. option_any test (chunk_of false block)) live || list_any (option_any test) slots)
-list_any-places test live slots =
-    list_any-append test (filter_map (chunk_of false) live) (delayed slots)
-    ∙ ap (λ b. b || list_any test (delayed slots)) (list_any-filter_map test (chunk_of false) live)
-    ∙ ap (λ b. list_any (λ block. option_any test (chunk_of false block)) live || b) (list_any-filter_map test (λ slot. slot) slots)
+pub list_any-places : (canary : Bool) (test : Place → Bool) (live : List Block) (slots : List (Option Place)) → list_any test (places_in canary live slots) ≡ (list_any (λ block. option_any test (chunk_of canary block)) live || list_any (option_any test) slots)
+list_any-places canary test live slots =
+    list_any-append test (filter_map (chunk_of canary) live) (delayed slots)
+    ∙ ap (λ b. b || list_any test (delayed slots)) (list_any-filter_map test (chunk_of canary) live)
+    ∙ ap (λ b. list_any (λ block. option_any test (chunk_of canary block)) live || b) (list_any-filter_map test (λ slot. slot) slots)
 
 -- the first of the places in use that passes a test
-pub find-places : (test : Place → Bool) (live : List Block) (slots : List (Option Place)) → find test (places_in false live slots) ≡ option_or (option_and_then (chunk_of false) (find (λ block. option_any test (chunk_of false block)) live)) (option_and_then (λ slot. slot) (find (option_any test) slots))
-find-places test live slots =
-    find-append test (filter_map (chunk_of false) live) (delayed slots)
-    ∙ ap (λ o. option_or o (find test (delayed slots))) (find-filter_map test (chunk_of false) live)
-    ∙ ap (option_or (option_and_then (chunk_of false) (find (λ block. option_any test (chunk_of false block)) live))) (find-filter_map test (λ slot. slot) slots)
+pub find-places : (canary : Bool) (test : Place → Bool) (live : List Block) (slots : List (Option Place)) → find test (places_in canary live slots) ≡ option_or (option_and_then (chunk_of canary) (find (λ block. option_any test (chunk_of canary block)) live)) (option_and_then (λ slot. slot) (find (option_any test) slots))
+find-places canary test live slots =
+    find-append test (filter_map (chunk_of canary) live) (delayed slots)
+    ∙ ap (λ o. option_or o (find test (delayed slots))) (find-filter_map test (chunk_of canary) live)
+    ∙ ap (option_or (option_and_then (chunk_of canary) (find (λ block. option_any test (chunk_of canary block)) live))) (find-filter_map test (λ slot. slot) slots)
 
 -- the element at a place of a filtered list, one element further on
 pub slice_get-filter_hit : {X : Type 0} (test : X → Bool) (x : X) (xs : List X) (i : ℕ) → test x ≡ true → 0 < i → slice_get (filter test (x ∷ xs)) i ≡ slice_get (filter test xs) (i - 1)

@@ -12,7 +12,7 @@ use Rattle.om_model.specs.declared.entry.Move.{Move}
 use Rattle.om_model.specs.declared.entry.CallEntry.{CallEntry}
 use Rattle.om_model.specs.declared.entry.Entry.{Entry}
 use Rattle.om_model.specs.declared.entry.Entry.TheVariants.{Call, Phase}
-use Rattle.om_pool.specs.Zones.{ZoneTable, zone_of, look_of, ArePassed, IsClaimed, IsReleased}
+use Rattle.om_pool.specs.Zones.{ZoneTable, searched_in, look_of, ArePassed, IsClaimed, IsReleased}
 use Rattle.om_pool.specs.ZoneStand.{Stands}
 use Rattle.om_pool.specs.LooksKept.{IsHad, IsLooked}
 use Rattle.om_pool.proofs.Held.{all-append}
@@ -114,7 +114,7 @@ IsLast moves look = look.version ≡ last_version moves look.zone
 looks-last : (pool : ℕ) (moves : List ZoneMove) (table : ZoneTable) (n word : ℕ) (looks : List Look) → Stands pool moves table → 0 < length table.bits → ArePassed table n word looks → AllByRecursion (IsLast moves) looks
 looks-last pool moves table n word looks stands some passed =
     subst (AllByRecursion (IsLast moves)) (sym passed.named)
-    (all_range (IsLast moves) (look_of table word) 0 (length looks) (λ i from below. stands.versions (zone_of table word i) (omega arith)))
+    (all_range (IsLast moves) (look_of table word) 0 (length looks) (λ i from below. stands.versions (searched_in table word i) (omega arith)))
 
 last-next : (moves : List ZoneMove) (looks : List Look) → AllByRecursion (IsLast moves) looks → AllByRecursion (IsNext moves) (map named_by_look looks)
 last-next moves looks last = all-map (IsNext moves) named_by_look looks

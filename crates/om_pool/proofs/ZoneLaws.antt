@@ -11,7 +11,7 @@ use Rattle.om_model.specs.declared.entry.Move.{Move}
 use Rattle.om_model.specs.declared.looks.Look.{Look}
 use Rattle.om_model.specs.Looks.{IsTrueLook}
 use Rattle.om_model.specs.ZoneOrder.{ZoneMove, IsLawfulMove, is_at, last_version, owner, owner_after}
-use Rattle.om_pool.specs.Zones.{ZoneTable, is_held, is_page_held, version_of, zone_of, look_of, CanMove, ArePassed, IsMoved, IsClaimed, IsReleased}
+use Rattle.om_pool.specs.Zones.{ZoneTable, is_held, is_page_held, version_of, searched_in, look_of, CanMove, ArePassed, IsMoved, IsClaimed, IsReleased}
 use Rattle.om_pool.specs.ZoneStand.{IsOwnMove, Stands}
 use Rattle.std.proofs.Math.Bool.{or-false, and-true}
 use mathlib.Core.Logic.{⊎_elim}
@@ -231,7 +231,7 @@ looks-true number moves table n word looks stands some passed =
   where
     true_at : (i : ℕ) → i < length looks → IsTrueLook moves n word (look_of table word i)
     true_at i below =
-        let zone : ℕ = zone_of table word i in
+        let zone : ℕ = searched_in table word i in
         let inside : zone < length table.bits = omega arith in
         let last : version_of table zone ≡ last_version moves zone = stands.versions zone inside in
         record {

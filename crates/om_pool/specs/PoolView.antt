@@ -1,7 +1,9 @@
 -- A pool as its callers see it: the rules by which it answers, its state, its journal, and for how many
 -- calls room is already made.
-use Rattle.std.specs.Prelude.{◌≡◌, ℕ, ◌+◌, ◌≤◌, List, [], ◌∷◌, ◌++◌}
-use Rattle.om_model.specs.Rules.{Rules, start_options}
+use Rattle.std.specs.Prelude.{◌≡◌, ℕ, ◌+◌, ◌≤◌, [], ◌∷◌, ◌++◌}
+use Rattle.om_opts.specs.declared.options.Opts.{Opts}
+use Rattle.om_words.specs.DrawnWords.{Source}
+use Rattle.om_model.specs.Rules.{Rules}
 use Rattle.om_model.specs.PoolState.{State}
 use Rattle.om_model.specs.Entries.{Entries}
 use Rattle.om_model.specs.LawfulJournal.{IsLawful, state_of}
@@ -19,9 +21,9 @@ pub record PoolView : Type 0 where
   pub journal : Entries
   pub spare : ℕ
 
--- the rules of a pool that is alone in an arena of 64 zones, over listed words
-abbrev pub lone_rules : List ℕ → Rules
-lone_rules words = record { options = record start_options { pools = 1 }; zones = 64; words = words; pool = 0 }
+-- the rules of a pool that is alone in an arena of 64 zones
+abbrev pub lone_rules : Opts → Source → Rules
+lone_rules options words = record { options = options; zones = 64; words = words; pool = 0 }
 
 -- the journal is a run of one pool: it is lawful, its moves are in zone order, its looks are true and in
 -- order, and the state is the one that it leaves

@@ -23,12 +23,12 @@ abbrev pub version_of : ZoneTable → ℕ → ℕ
 version_of table zone = slice_index table.versions zone
 
 -- a search by a word begins at the zone that the word names, and goes on cyclically
-abbrev pub zone_of : ZoneTable → ℕ → ℕ → ℕ
-zone_of table word i = (word / 32 + i) % length table.bits
+abbrev pub searched_in : ZoneTable → ℕ → ℕ → ℕ
+searched_in table word i = (word / 32 + i) % length table.bits
 
 -- the look at the zone where a search comes after so many others
 abbrev pub look_of : ZoneTable → ℕ → ℕ → Look
-look_of table word i = record { zone = zone_of table word i; version = version_of table (zone_of table word i) }
+look_of table word i = record { zone = searched_in table word i; version = version_of table (searched_in table word i) }
 
 -- where so many pages fit in the zone
 abbrev pub fit_in : ZoneTable → ℕ → ℕ → ℕ → Option ℕ
@@ -37,7 +37,7 @@ fit_in table n word zone = fit_of (is_held table zone) n (word % 32)
 -- the looks are at the zones that come first, and in none of these the pages fit
 pub record ArePassed (table : ZoneTable) (n word : ℕ) (looks : List Look) : Type 0 where
   pub named : looks ≡ map (look_of table word) (range_with_len 0 (length looks))
-  pub full : (i : ℕ) → i < length looks → fit_in table n word (zone_of table word i) ≡ None
+  pub full : (i : ℕ) → i < length looks → fit_in table n word (searched_in table word i) ≡ None
 
 -- no version can run out at the next move
 abbrev pub CanMove : ZoneTable → Type 0
@@ -51,7 +51,7 @@ pub record IsMoved (old new : ZoneTable) (zone : ℕ) : Type 0 where
 -- the claim is in the zone after those that were passed over, on the pages that fit there
 pub record IsClaimed (old new : ZoneTable) (n word passed : ℕ) (move : Move) : Type 0 where
   pub few : passed < length old.bits
-  pub zone : move.zone ≡ zone_of old word passed
+  pub zone : move.zone ≡ searched_in old word passed
   pub first : fit_in old n word move.zone ≡ Some move.first
   pub count : move.count ≡ n
   pub version : move.version ≡ version_of old move.zone + 1

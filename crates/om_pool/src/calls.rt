@@ -1,5 +1,6 @@
 //! The calls of a pool.
-ghost use Rattle.std.specs.Prelude.{◌≡◌, ◌-◌, ◌^◌, ◌<◌, ◌≤◌, [], length, vec_len, IfOk, OnOk};
+ghost use Rattle.std.specs.Prelude.{◌≡◌, ◌-◌, ◌^◌, ◌<◌, ◌≤◌, [], length, IfOk, IsSome, OnOk};
+ghost use Rattle.om_model.specs.LawfulJournal.{served_class};
 ghost use Rattle.om_model.specs.PoolState.{opening};
 ghost use Rattle.om_model.specs.Rules.{canary_byte};
 ghost use Rattle.om_pool.specs.PoolView.{lone_rules, IsRun, Enters, IsAsBefore};
@@ -7,6 +8,8 @@ ghost use Rattle.om_pool.specs.PoolView.{lone_rules, IsRun, Enters, IsAsBefore};
 use crate::pool_core::Core;
 use om_geom::Addr;
 use om_model::{Journal, Op, Reply, Who};
+use om_opts::Opts;
+use om_words::Words;
 use std::alloc::{AllocError, Global};
 use std::marker::Model;
 use std::sync::Wait;
@@ -30,16 +33,16 @@ impl Model for Pool {
 }
 
 impl Pool {
-    /// A pool that holds nothing, and draws the listed words again and again.
-    pub fn start(alloc: Global, words: Vec<u32>) -> Result<Pool, AllocError>
-        requires { 0 < vec_len words }
-        ensures rules { IfOk result (λ pool. pool.rules ≡ lone_rules words.items) }
+    /// A pool that holds nothing. It draws the first of the words for the canary byte.
+    pub fn start(alloc: Global, opts: Opts, words: Words) -> Result<Pool, AllocError>
+        requires { words.place ≡ 0 }
+        ensures rules { IfOk result (λ pool. pool.rules ≡ lone_rules opts words.source) }
         ensures state { IfOk result (λ pool. pool.state ≡ opening) }
         ensures entries { IfOk result (λ pool. pool.journal.items ≡ []) }
         ensures run { IfOk result (λ pool. IsRun pool) }
     {
         Ok(Pool {
-            core: Core::new(alloc, words)?,
+            core: Core::new(alloc, opts, words)?,
         })
     }
 
@@ -58,8 +61,7 @@ impl Pool {
         requires room { 1 ≤ self.old.spare }
         requires short { length self.old.journal.items < 2 ^ 32 - 1 }
         requires own { who.hop ≡ 0 }
-        requires some { 1 ≤ size }
-        requires small { size ≤ 2048 }
+        requires served { IsSome (served_class self.old.rules size) }
         ensures added { Enters self.old self.new who (Op.Malloc size site) result }
         ensures before { IsRun self.old }
         ensures run { IsRun self.new }
@@ -94,6 +96,6 @@ impl Pool {
     pub fn canary(&self) -> u8
         ensures { result ≡ canary_byte self.now.rules }
     {
-        (self.core.word(0) % 255 + 1) as u8
+        self.core.canary
     }
 }

@@ -1,9 +1,7 @@
 //! Free, by the first case that holds.
-ghost use Rattle.std.specs.Prelude.{◌≡◌, ◌-◌, ◌+◌, ◌/◌, ◌%◌, ◌^◌, ◌&&◌, nat_le, ◌<◌, ◌≤◌, ◌==◌, false, true, not, IsTrue, [], ◌∷◌, length, vec_len, Some, None, IfSome, filter, nat_eq, if◌then◌else◌, slice_index_or, slice_set};
-ghost use Rattle.std.specs.List.{list_any};
+ghost use Rattle.std.specs.Prelude.{◌≡◌, ◌-◌, ◌/◌, ◌%◌, ◌^◌, ◌&&◌, ◌||◌, nat_le, ◌<◌, ◌≤◌, ◌==◌, false, true, not, IsTrue, [], ◌∷◌, length, Some, None, filter, if◌then◌else◌, slice_index_or, slice_set};
 ghost use Rattle.om_geom.specs.Addresses.{address_of, page_at};
 ghost use Rattle.om_geom.specs.Classes.{is_class, stride_of};
-ghost use Rattle.om_model.specs.Rules.{word_at};
 ghost use Rattle.om_model.specs.PoolState.{chunk_class, is_among as is_among_places, places, is_free_page, free_pages, without_page};
 ghost use Rattle.om_model.specs.Free.{unchanged, free as free_step, free_on as free_on_page, slot_holds, freed_again, delay};
 ghost use Rattle.om_pool.specs.PoolKept.{is_page_among};
@@ -14,9 +12,6 @@ use crate::places::{class_on, free_count, is_delayed, is_free, is_used, page_of_
 use crate::pool_core::Core;
 use om_geom::{Addr, Class, Page, addr_of, page_of, stride};
 use om_model::{Block, CallEntry, Drawn, Fault, LookList, Move, Op, Place, Reply, Who};
-
-// The cache bound: so many free pages a pool keeps.
-const CACHE: usize = 64;
 
 impl Core {
     /// Frees an address, as free(3).
@@ -86,10 +81,9 @@ impl Core {
         ensures kept { IsCore self.new }
         ensures added { Adds self.old self.new who (Op.Free address) result }
     {
-        let word = self.word(self.drawn);
+        let word = self.draw();
         let slot = slot_at(&self.slots, word as usize % 16);
-        let reply = reply_again(slot_has(slot, address));
-        self.drawn += 1;
+        let reply = reply_again(is_seen(self.opts.freecheck, slot, address));
         self.enter(CallEntry {
             who,
             op: Op::Free { addr: address },
@@ -113,7 +107,7 @@ impl Core {
         ensures kept { IsCore self.new }
         ensures added { Adds self.old self.new who (Op.Free address) result }
     {
-        let word = self.word(self.drawn);
+        let word = self.draw();
         let evicted = self.put_off(address, class, word as usize % 16);
         match evicted {
             Some(place) => {
@@ -132,15 +126,13 @@ impl Core {
     // Moves the place from the live blocks into the slot, and gives what the slot had.
     fn put_off(&mut self, address: u64, class: u32, slot: usize) -> Option<Place>
         requires slot { slot < 16 }
-        requires few { self.old.drawn < 2 ^ 40 }
         ensures evicted { result ≡ slice_index_or self.old.slots slot None }
         ensures live { self.new.live.items ≡ filter (λ block. not (block.address == address)) self.old.live.items }
-        ensures same { self.new ≡ record (record (record self.old { live = self.new.live }) { slots = slice_set self.old.slots slot (Some (record { address = address; class = class })) }) { drawn = self.old.drawn + 1 } }
+        ensures same { self.new ≡ record (record self.old { live = self.new.live }) { slots = slice_set self.old.slots slot (Some (record { address = address; class = class })) } }
     {
         remove_block(&mut self.live, address);
         let evicted = slot_at(&self.slots, slot);
         self.slots[slot] = Some(Place { address, class });
-        self.drawn += 1;
         evicted
     }
 
@@ -148,22 +140,23 @@ impl Core {
     fn uses(&self, address: u64) -> bool
         ensures { result ≡ is_among_places (places (rules_in self.now) (state_in self.now)) address }
     {
-        is_used(&self.live, &self.slots, address)
+        is_used(self.opts.canary, &self.live, &self.slots, address)
     }
 
     // The class of a chunk page; none for a free page.
     fn class_of_page(&self, page: u32) -> Option<u32>
         ensures { result ≡ chunk_class (places (rules_in self.now) (state_in self.now)) page }
     {
-        class_on(&self.live, &self.slots, page)
+        class_on(self.opts.canary, &self.live, &self.slots, page)
     }
 
     // Whether the page is free, and more pages are free than the pool keeps.
     fn is_surplus(&self, page: u32) -> bool
-        ensures { result ≡ (is_free_page (places (rules_in self.now) (state_in self.now)) page && not (nat_le (length (free_pages (places (rules_in self.now) (state_in self.now)) self.now.held.items)) 64)) }
+        ensures { result ≡ (is_free_page (places (rules_in self.now) (state_in self.now)) page && not (nat_le (length (free_pages (places (rules_in self.now) (state_in self.now)) self.now.held.items)) self.now.opts.cache)) }
     {
-        is_free(&self.live, &self.slots, page)
-            && free_count(&self.live, &self.slots, &self.held) > CACHE
+        is_free(self.opts.canary, &self.live, &self.slots, page)
+            && free_count(self.opts.canary, &self.live, &self.slots, &self.held)
+                > self.opts.cache as usize
     }
 
     // Releases the page.
@@ -267,6 +260,13 @@ fn slot_has(slot: Option<Place>, address: u64) -> bool
         Some(place) => place.address == address,
         None => false,
     }
+}
+
+// Whether a second free is seen.
+fn is_seen(freecheck: bool, slot: Option<Place>, address: u64) -> bool
+    ensures { result ≡ (freecheck || slot_holds slot address) }
+{
+    freecheck || slot_has(slot, address)
 }
 
 // What a second free of a delayed place is answered.

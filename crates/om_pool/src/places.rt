@@ -1,10 +1,10 @@
 //! What the live blocks and the delayed places say of pages and places. The state keeps no kind of a
 //! page and no map of places: each question goes over the lists.
-ghost use Rattle.std.specs.Prelude.{◌≡◌, ◌+◌, ◌%◌, ◌<◌, ◌≤◌, ◌==◌, ◌&&◌, false, IsTrue, ◌^◌, length, slice_get, filter, All};
+ghost use Rattle.std.specs.Prelude.{◌≡◌, ◌+◌, ◌%◌, ◌<◌, ◌==◌, ◌&&◌, IsTrue, length, slice_get, filter, All};
 ghost use Rattle.std.specs.List.{find, list_any, range_with_len};
-ghost use Rattle.std.specs.Option.{option_map, option_and_then, option_copied, is_some};
+ghost use Rattle.std.specs.Option.{option_and_then, option_copied, is_some};
 ghost use Rattle.om_geom.specs.Addresses.{page_at};
-ghost use Rattle.om_geom.specs.Classes.{is_class, places_of, stride_of};
+ghost use Rattle.om_geom.specs.Classes.{is_class, places_of};
 ghost use Rattle.om_model.specs.PoolState.{chunk_of, places_in, delayed, is_among, touches, chunk_class, is_free_page, free_pages};
 ghost use Rattle.om_model.specs.Picks.{is_free_place, is_open_page, open_pages, own_page, picked_place, place_address};
 ghost use Rattle.om_pool.specs.OptionTests.{option_any};
@@ -20,10 +20,10 @@ pub(crate) fn page_of_address(address: u64) -> u64
 }
 
 /// The place of a live block, where it is a chunk.
-fn chunk_place(block: &Block) -> Option<Place>
-    ensures { result ≡ chunk_of false block.now }
+fn chunk_place(canary: bool, block: &Block) -> Option<Place>
+    ensures { result ≡ chunk_of canary block.now }
 {
-    match class_of(block.size, false) {
+    match class_of(block.size, canary) {
         Some(class) => Some(Place {
             address: block.address,
             class: class.0,
@@ -33,10 +33,10 @@ fn chunk_place(block: &Block) -> Option<Place>
 }
 
 // The address is compared before the class is looked for, which takes longer.
-fn begins_at(block: &Block, address: u64) -> bool
-    ensures { result ≡ option_any (λ place. place.address == address) (chunk_of false block.now) }
+fn begins_at(canary: bool, block: &Block, address: u64) -> bool
+    ensures { result ≡ option_any (λ place. place.address == address) (chunk_of canary block.now) }
 {
-    block.address == address && class_of(block.size, false).is_some()
+    block.address == address && class_of(block.size, canary).is_some()
 }
 
 fn slot_begins_at(slot: &Option<Place>, address: u64) -> bool
@@ -48,10 +48,10 @@ fn slot_begins_at(slot: &Option<Place>, address: u64) -> bool
     }
 }
 
-fn block_touches(block: &Block, page: u32) -> bool
-    ensures { result ≡ option_any (touches page) (chunk_of false block.now) }
+fn block_touches(canary: bool, block: &Block, page: u32) -> bool
+    ensures { result ≡ option_any (touches page) (chunk_of canary block.now) }
 {
-    page_of_address(block.address) == u64::from(page) && class_of(block.size, false).is_some()
+    page_of_address(block.address) == u64::from(page) && class_of(block.size, canary).is_some()
 }
 
 fn slot_touches(slot: &Option<Place>, page: u32) -> bool
@@ -63,10 +63,10 @@ fn slot_touches(slot: &Option<Place>, page: u32) -> bool
     }
 }
 
-fn some_block_begins_at(live: &[Block], address: u64) -> bool
-    ensures { result ≡ list_any (λ block. option_any (λ place. place.address == address) (chunk_of false block)) live.now }
+fn some_block_begins_at(canary: bool, live: &[Block], address: u64) -> bool
+    ensures { result ≡ list_any (λ block. option_any (λ place. place.address == address) (chunk_of canary block)) live.now }
 {
-    live.iter().any(|block| begins_at(block, address))
+    live.iter().any(|block| begins_at(canary, block, address))
 }
 
 fn some_slot_begins_at(slots: &[Option<Place>], address: u64) -> bool
@@ -75,10 +75,10 @@ fn some_slot_begins_at(slots: &[Option<Place>], address: u64) -> bool
     slots.iter().any(|slot| slot_begins_at(slot, address))
 }
 
-fn touching_block(live: &[Block], page: u32) -> Option<&Block>
-    ensures { option_copied result ≡ find (λ block. option_any (touches page) (chunk_of false block)) live.now }
+fn touching_block(canary: bool, live: &[Block], page: u32) -> Option<&Block>
+    ensures { option_copied result ≡ find (λ block. option_any (touches page) (chunk_of canary block)) live.now }
 {
-    live.iter().find(|block| block_touches(block, page))
+    live.iter().find(|block| block_touches(canary, block, page))
 }
 
 fn touching_slot(slots: &[Option<Place>], page: u32) -> Option<&Option<Place>>
@@ -88,10 +88,10 @@ fn touching_slot(slots: &[Option<Place>], page: u32) -> Option<&Option<Place>>
 }
 
 /// Whether a place in use begins at the address.
-pub(crate) fn is_used(live: &[Block], slots: &[Option<Place>], address: u64) -> bool
-    ensures { result ≡ is_among (places_in false live.now slots.now) address }
+pub(crate) fn is_used(canary: bool, live: &[Block], slots: &[Option<Place>], address: u64) -> bool
+    ensures { result ≡ is_among (places_in canary live.now slots.now) address }
 {
-    some_block_begins_at(live, address) || some_slot_begins_at(slots, address)
+    some_block_begins_at(canary, live, address) || some_slot_begins_at(slots, address)
 }
 
 /// Whether a delayed place begins at the address.
@@ -101,10 +101,10 @@ pub(crate) fn is_delayed(slots: &[Option<Place>], address: u64) -> bool
     some_slot_begins_at(slots, address)
 }
 
-fn some_block_touches(live: &[Block], page: u32) -> bool
-    ensures { result ≡ list_any (λ block. option_any (touches page) (chunk_of false block)) live.now }
+fn some_block_touches(canary: bool, live: &[Block], page: u32) -> bool
+    ensures { result ≡ list_any (λ block. option_any (touches page) (chunk_of canary block)) live.now }
 {
-    live.iter().any(|block| block_touches(block, page))
+    live.iter().any(|block| block_touches(canary, block, page))
 }
 
 fn some_slot_touches(slots: &[Option<Place>], page: u32) -> bool
@@ -113,24 +113,24 @@ fn some_slot_touches(slots: &[Option<Place>], page: u32) -> bool
     slots.iter().any(|slot| slot_touches(slot, page))
 }
 
-fn is_touched(live: &[Block], slots: &[Option<Place>], page: u32) -> bool
-    ensures { result ≡ list_any (touches page) (places_in false live.now slots.now) }
+fn is_touched(canary: bool, live: &[Block], slots: &[Option<Place>], page: u32) -> bool
+    ensures { result ≡ list_any (touches page) (places_in canary live.now slots.now) }
 {
-    some_block_touches(live, page) || some_slot_touches(slots, page)
+    some_block_touches(canary, live, page) || some_slot_touches(slots, page)
 }
 
 /// Whether no place in use touches the page.
-pub(crate) fn is_free(live: &[Block], slots: &[Option<Place>], page: u32) -> bool
-    ensures { result ≡ is_free_page (places_in false live.now slots.now) page }
+pub(crate) fn is_free(canary: bool, live: &[Block], slots: &[Option<Place>], page: u32) -> bool
+    ensures { result ≡ is_free_page (places_in canary live.now slots.now) page }
 {
-    !is_touched(live, slots, page)
+    !is_touched(canary, live, slots, page)
 }
 
-fn touching_chunk(live: &[Block], page: u32) -> Option<Place>
-    ensures { result ≡ option_and_then (chunk_of false) (find (λ block. option_any (touches page) (chunk_of false block)) live.now) }
+fn touching_chunk(canary: bool, live: &[Block], page: u32) -> Option<Place>
+    ensures { result ≡ option_and_then (chunk_of canary) (find (λ block. option_any (touches page) (chunk_of canary block)) live.now) }
 {
-    match touching_block(live, page) {
-        Some(block) => chunk_place(block),
+    match touching_block(canary, live, page) {
+        Some(block) => chunk_place(canary, block),
         None => None,
     }
 }
@@ -144,30 +144,35 @@ fn touching_delayed(slots: &[Option<Place>], page: u32) -> Option<Place>
     }
 }
 
-fn touching_place(live: &[Block], slots: &[Option<Place>], page: u32) -> Option<Place>
-    ensures { result ≡ find (touches page) (places_in false live.now slots.now) }
+fn touching_place(canary: bool, live: &[Block], slots: &[Option<Place>], page: u32) -> Option<Place>
+    ensures { result ≡ find (touches page) (places_in canary live.now slots.now) }
 {
-    match touching_chunk(live, page) {
+    match touching_chunk(canary, live, page) {
         Some(place) => Some(place),
         None => touching_delayed(slots, page),
     }
 }
 
 /// The class of the page, where a place in use touches it.
-pub(crate) fn class_on(live: &[Block], slots: &[Option<Place>], page: u32) -> Option<u32>
-    ensures { result ≡ chunk_class (places_in false live.now slots.now) page }
+pub(crate) fn class_on(
+    canary: bool,
+    live: &[Block],
+    slots: &[Option<Place>],
+    page: u32,
+) -> Option<u32>
+    ensures { result ≡ chunk_class (places_in canary live.now slots.now) page }
 {
-    match touching_place(live, slots, page) {
+    match touching_place(canary, live, slots, page) {
         Some(place) => Some(place.class),
         None => None,
     }
 }
 
-fn block_is_of(block: &Block, page: u32, class: u32) -> bool
-    ensures { result ≡ option_any (λ place. touches page place && place.class == class) (chunk_of false block.now) }
+fn block_is_of(canary: bool, block: &Block, page: u32, class: u32) -> bool
+    ensures { result ≡ option_any (λ place. touches page place && place.class == class) (chunk_of canary block.now) }
 {
     page_of_address(block.address) == u64::from(page)
-        && class_of(block.size, false).is_some_and(|found| found.0 == class)
+        && class_of(block.size, canary).is_some_and(|found| found.0 == class)
 }
 
 fn slot_is_of(slot: &Option<Place>, page: u32, class: u32) -> bool
@@ -179,10 +184,11 @@ fn slot_is_of(slot: &Option<Place>, page: u32, class: u32) -> bool
     }
 }
 
-fn some_block_is_of(live: &[Block], page: u32, class: u32) -> bool
-    ensures { result ≡ list_any (λ block. option_any (λ place. touches page place && place.class == class) (chunk_of false block)) live.now }
+fn some_block_is_of(canary: bool, live: &[Block], page: u32, class: u32) -> bool
+    ensures { result ≡ list_any (λ block. option_any (λ place. touches page place && place.class == class) (chunk_of canary block)) live.now }
 {
-    live.iter().any(|block| block_is_of(block, page, class))
+    live.iter()
+        .any(|block| block_is_of(canary, block, page, class))
 }
 
 fn some_slot_is_of(slots: &[Option<Place>], page: u32, class: u32) -> bool
@@ -200,41 +206,62 @@ pub(crate) fn place_start(page: u32, class: u32, place: u32) -> u64
     addr_of(Page(page)).0 + u64::from(place) * u64::from(stride(Class(class)))
 }
 
-fn is_free_at(live: &[Block], slots: &[Option<Place>], page: u32, class: u32, place: u32) -> bool
+fn is_free_at(
+    canary: bool,
+    live: &[Block],
+    slots: &[Option<Place>],
+    page: u32,
+    class: u32,
+    place: u32,
+) -> bool
     requires page { page < 2048 }
     requires class { IsTrue (is_class class) }
-    ensures { result ≡ is_free_place (places_in false live.now slots.now) page class place }
+    ensures { result ≡ is_free_place (places_in canary live.now slots.now) page class place }
 {
-    !is_used(live, slots, place_start(page, class, place))
+    !is_used(canary, live, slots, place_start(page, class, place))
 }
 
 /// Whether the page is a chunk page of the class.
-fn is_chunk_page(live: &[Block], slots: &[Option<Place>], page: u32, class: u32) -> bool
-    ensures { result ≡ list_any (λ place. touches page place && (place.class == class)) (places_in false live.now slots.now) }
+fn is_chunk_page(
+    canary: bool,
+    live: &[Block],
+    slots: &[Option<Place>],
+    page: u32,
+    class: u32,
+) -> bool
+    ensures { result ≡ list_any (λ place. touches page place && (place.class == class)) (places_in canary live.now slots.now) }
 {
-    some_block_is_of(live, page, class) || some_slot_is_of(slots, page, class)
+    some_block_is_of(canary, live, page, class) || some_slot_is_of(slots, page, class)
 }
 
-fn has_free_place(live: &[Block], slots: &[Option<Place>], page: u32, class: u32) -> bool
+fn has_free_place(
+    canary: bool,
+    live: &[Block],
+    slots: &[Option<Place>],
+    page: u32,
+    class: u32,
+) -> bool
     requires page { page < 2048 }
     requires class { IsTrue (is_class class) }
-    ensures { result ≡ list_any (is_free_place (places_in false live.now slots.now) page class) (range_with_len 0 (places_of class)) }
+    ensures { result ≡ list_any (is_free_place (places_in canary live.now slots.now) page class) (range_with_len 0 (places_of class)) }
 {
-    (0..places(Class(class))).any(|place| is_free_at(live, slots, page, class, place))
+    (0..places(Class(class))).any(|place| is_free_at(canary, live, slots, page, class, place))
 }
 
 /// Whether the page is a chunk page of the class with a free place.
-fn is_open(live: &[Block], slots: &[Option<Place>], page: u32, class: u32) -> bool
+fn is_open(canary: bool, live: &[Block], slots: &[Option<Place>], page: u32, class: u32) -> bool
     requires page { page < 2048 }
     requires class { IsTrue (is_class class) }
-    ensures { result ≡ is_open_page (places_in false live.now slots.now) class page }
+    ensures { result ≡ is_open_page (places_in canary live.now slots.now) class page }
 {
-    is_chunk_page(live, slots, page, class) && has_free_place(live, slots, page, class)
+    is_chunk_page(canary, live, slots, page, class)
+        && has_free_place(canary, live, slots, page, class)
 }
 
 /// The first free place of the page in cyclic order from the one that the word chooses.
 #[tactic(auto, unfolding(om_model::specs::Picks::picked_place))]
 pub(crate) fn pick_place(
+    canary: bool,
     live: &[Block],
     slots: &[Option<Place>],
     page: u32,
@@ -243,44 +270,56 @@ pub(crate) fn pick_place(
 ) -> Option<u32>
     requires page { page < 2048 }
     requires class { IsTrue (is_class class) }
-    ensures { result ≡ picked_place (places_in false live.now slots.now) page class word }
+    ensures { result ≡ picked_place (places_in canary live.now slots.now) page class word }
 {
     let count = places(Class(class));
     let start = word % count;
-    (start..count)
-        .chain(0..start)
-        .find(|place| is_free_at(live, slots, page, class, *place))
+    (start..count).chain(0..start).find(|place| is_free_at(
+        canary, live, slots, page, class, *place,
+    ))
 }
 
 /// How many of the held pages are free.
-pub(crate) fn free_count(live: &[Block], slots: &[Option<Place>], held: &[u32]) -> usize
-    ensures { result ≡ length (free_pages (places_in false live.now slots.now) held.now) }
+pub(crate) fn free_count(
+    canary: bool,
+    live: &[Block],
+    slots: &[Option<Place>],
+    held: &[u32],
+) -> usize
+    ensures { result ≡ length (free_pages (places_in canary live.now slots.now) held.now) }
 {
     held.iter()
-        .filter(|page| is_free(live, slots, **page))
+        .filter(|page| is_free(canary, live, slots, **page))
         .count()
 }
 
-fn lowest_free(live: &[Block], slots: &[Option<Place>], held: &[u32]) -> Option<u32>
-    ensures { result ≡ find (is_free_page (places_in false live.now slots.now)) held.now }
+fn lowest_free(canary: bool, live: &[Block], slots: &[Option<Place>], held: &[u32]) -> Option<u32>
+    ensures { result ≡ find (is_free_page (places_in canary live.now slots.now)) held.now }
 {
     held.iter()
         .copied()
-        .find(|page| is_free(live, slots, *page))
+        .find(|page| is_free(canary, live, slots, *page))
 }
 
-fn open_count(live: &[Block], slots: &[Option<Place>], held: &[u32], class: u32) -> usize
+fn open_count(
+    canary: bool,
+    live: &[Block],
+    slots: &[Option<Place>],
+    held: &[u32],
+    class: u32,
+) -> usize
     requires pages { All (λ page. page < 2048) held.now }
     requires class { IsTrue (is_class class) }
-    ensures { result ≡ length (open_pages (places_in false live.now slots.now) held.now class) }
+    ensures { result ≡ length (open_pages (places_in canary live.now slots.now) held.now class) }
 {
     held.iter()
-        .filter(|page| is_open(live, slots, **page, class))
+        .filter(|page| is_open(canary, live, slots, **page, class))
         .count()
 }
 
 // The i-th of the open pages.
 fn open_at(
+    canary: bool,
     live: &[Block],
     slots: &[Option<Place>],
     held: &[u32],
@@ -289,11 +328,11 @@ fn open_at(
 ) -> Option<u32>
     requires pages { All (λ page. page < 2048) held.now }
     requires class { IsTrue (is_class class) }
-    ensures { result ≡ slice_get (open_pages (places_in false live.now slots.now) held.now class) i }
+    ensures { result ≡ slice_get (open_pages (places_in canary live.now slots.now) held.now class) i }
 {
     let mut before = i;
     for page in held {
-        if is_open(live, slots, *page, class) {
+        if is_open(canary, live, slots, *page, class) {
             if before == 0 {
                 return Some(*page);
             }
@@ -307,6 +346,7 @@ fn open_at(
 /// else the lowest free page.
 #[tactic(auto, unfolding(om_model::specs::Picks::own_page))]
 pub(crate) fn choose_page(
+    canary: bool,
     live: &[Block],
     slots: &[Option<Place>],
     held: &[u32],
@@ -315,12 +355,12 @@ pub(crate) fn choose_page(
 ) -> Option<u32>
     requires pages { All (λ page. page < 2048) held.now }
     requires class { IsTrue (is_class class) }
-    ensures { result ≡ own_page (places_in false live.now slots.now) held.now class word }
+    ensures { result ≡ own_page (places_in canary live.now slots.now) held.now class word }
 {
-    let count = open_count(live, slots, held, class);
+    let count = open_count(canary, live, slots, held, class);
     if count == 0 {
-        lowest_free(live, slots, held)
+        lowest_free(canary, live, slots, held)
     } else {
-        open_at(live, slots, held, class, word as usize % count)
+        open_at(canary, live, slots, held, class, word as usize % count)
     }
 }

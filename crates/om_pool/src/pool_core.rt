@@ -1,28 +1,34 @@
 //! The state of a pool with its zones and its journal, and the steps of its calls.
-ghost use Rattle.std.specs.Prelude.{◌≡◌, ◌+◌, ◌%◌, ◌-◌, ◌^◌, ◌<◌, ◌≤◌, false, IsTrue, [], ◌∷◌, ◌++◌, length, slice_index, vec_len, vec_capacity, Some, None, IsSome, IfSome, unwrap_or, All, filter, nat_lt, IfOk, OnOk};
+ghost use Rattle.std.specs.Prelude.{◌≡◌, ◌+◌, ◌-◌, ◌^◌, ◌<◌, ◌≤◌, ◌==◌, false, IsTrue, [], ◌∷◌, ◌++◌, length, if◌then◌else◌, vec_len, vec_capacity, Some, None, IsSome, IfSome, unwrap_or, filter, nat_lt, IfOk, OnOk};
 ghost use Rattle.om_geom.specs.Classes.{class_of, is_class};
 ghost use Rattle.om_model.specs.Rules.{word_at};
 ghost use Rattle.om_model.specs.PoolState.{opening, places_in, places, with_page};
 ghost use Rattle.om_model.specs.Picks.{own_page, picked_place, place_address};
 ghost use Rattle.om_pool.specs.PoolKept.{Ascends, is_page_among};
-ghost use Rattle.om_pool.specs.CoreKept.{rules_in, state_in, IsCore, HasRoom, Adds};
-ghost use Rattle.om_pool.specs.Served.{IsServed, first_word};
+ghost use Rattle.om_model.specs.LawfulJournal.{served_class};
+ghost use Rattle.om_pool.specs.PoolView.{lone_rules};
+ghost use Rattle.om_pool.specs.CoreKept.{rules_in, state_in, with_drawn, IsCore, HasRoom, HasTwoWords, Adds, AddsMalloc};
+ghost use Rattle.om_pool.specs.Served.{IsServed};
 ghost use Rattle.om_pool.specs.Zones.{CanMove, ArePassed, ClaimGives};
 
 use crate::places::{choose_page, pick_place, place_start};
 use crate::zones::Zones;
 use om_geom::class_of;
 use om_model::{
-    Block, CallEntry, Drawn, Entry, Journal, LookList, Move, Op, Place, Reply, Who, Why,
+    Block, CallEntry, Drawn, Entry, Fault, Journal, LookList, Move, Op, Place, Reply, Who, Why,
 };
+use om_opts::Opts;
+use om_words::Words;
 use std::alloc::{AllocError, Global};
 
 /// What a pool keeps. The held pages ascend; a slot has a delayed place or nothing.
 #[derive(Drop)]
 pub(crate) struct Core {
     pub(crate) alloc: Global,
-    pub(crate) words: Vec<u32>,
-    pub(crate) drawn: u64,
+    pub(crate) opts: Opts,
+    pub(crate) words: Words,
+    /// What the first word gave.
+    pub(crate) canary: u8,
     pub(crate) held: Vec<u32>,
     pub(crate) live: Vec<Block>,
     pub(crate) slots: [Option<Place>; 16],
@@ -30,6 +36,13 @@ pub(crate) struct Core {
     /// An empty list with room for a look at each zone, until a search fills it.
     pub(crate) room: Option<LookList>,
     pub(crate) journal: Journal,
+}
+
+/// The words of an allocation: for the page and for the place.
+#[derive(Clone, Copy)]
+pub(crate) struct Pair {
+    pub(crate) first: u32,
+    pub(crate) second: u32,
 }
 
 /// What a search of the zones gave: the claim, and the looks at the zones that it passed over.
@@ -40,18 +53,20 @@ struct Search {
 }
 
 impl Core {
-    /// A core that holds nothing, and draws these words. The canary byte takes the first.
-    pub(crate) fn new(alloc: Global, words: Vec<u32>) -> Result<Core, AllocError>
-        requires { 0 < vec_len words }
+    /// A core that holds nothing. The canary byte takes the first word.
+    pub(crate) fn new(alloc: Global, opts: Opts, mut words: Words) -> Result<Core, AllocError>
+        requires { words.place ≡ 0 }
         ensures kept { IfOk result (λ core. IsCore core) }
-        ensures words { IfOk result (λ core. core.words ≡ words) }
+        ensures rules { IfOk result (λ core. rules_in core ≡ lone_rules opts words.source) }
         ensures state { IfOk result (λ core. state_in core ≡ opening) }
         ensures entries { IfOk result (λ core. core.journal.items ≡ []) }
     {
+        let word = words.draw();
         Ok(Core {
             alloc,
+            opts,
             words,
-            drawn: 1,
+            canary: (word % 255 + 1) as u8,
             held: Vec::new(alloc),
             live: Vec::new(alloc),
             slots: [None; 16],
@@ -67,7 +82,7 @@ impl Core {
         requires short { length self.old.journal.items < 2 ^ 32 - 1 }
         ensures kept { IsCore self.new }
         ensures room { OnOk result (HasRoom self.new) }
-        ensures words { self.new.words ≡ self.old.words }
+        ensures rules { rules_in self.new ≡ rules_in self.old }
         ensures state { state_in self.new ≡ state_in self.old }
         ensures entries { self.new.journal.items ≡ self.old.journal.items }
     {
@@ -80,12 +95,13 @@ impl Core {
         Ok(())
     }
 
-    /// Word `i` of this pool.
-    pub(crate) fn word(&self, i: u64) -> u32
-        requires { 0 < vec_len self.now.words }
-        ensures { result ≡ slice_index self.now.words.items (i % length self.now.words.items) }
+    /// The next word of this pool.
+    pub(crate) fn draw(&mut self) -> u32
+        requires { self.old.words.place < 2 ^ 63 }
+        ensures word { result ≡ word_at (rules_in self.old) self.old.words.place }
+        ensures same { self.new ≡ with_drawn 1 self.old }
     {
-        self.words[(i % self.words.len() as u64) as usize]
+        self.words.draw()
     }
 
     /// Adds a live block on the page, at the free place that the word chooses, and gives its address.
@@ -93,11 +109,18 @@ impl Core {
         requires page { page < 2048 }
         requires class { IsTrue (is_class class) }
         requires room { vec_len self.old.live < vec_capacity self.old.live }
-        ensures address { result ≡ place_address page class (unwrap_or (picked_place (places_in false self.old.live.items self.old.slots) page class word) 0) }
+        ensures address { result ≡ place_address page class (unwrap_or (picked_place (places_in self.old.opts.canary self.old.live.items self.old.slots) page class word) 0) }
         ensures live { self.new.live.items ≡ self.old.live.items ++ record { address = result; size = size; site = site } ∷ [] }
         ensures same { self.new ≡ record self.old { live = self.new.live } }
     {
-        let place = pick_place(&self.live, &self.slots, page, class, word).unwrap_or(0);
+        let place = pick_place(
+            self.opts.canary,
+            &self.live,
+            &self.slots,
+            page,
+            class,
+            word,
+        ).unwrap_or(0);
         let address = place_start(page, class, place);
         match self.live.push(Block {
             address,
@@ -135,43 +158,29 @@ impl Core {
         self.journal.push(Entry::Call(entry));
     }
 
-    /// The two words of an allocation.
-    fn two_words(&self) -> Drawn
-        requires some { 0 < vec_len self.now.words }
-        requires few { self.now.drawn < 2 ^ 40 }
-        ensures { result ≡ word_at (rules_in self.now) self.now.drawn ∷ word_at (rules_in self.now) (self.now.drawn + 1) ∷ [] }
-    {
-        let mut words = Drawn::empty();
-        words.push(self.word(self.drawn));
-        words.push(self.word(self.drawn + 1));
-        words
-    }
-
     /// An allocation on a page that the pool has.
-    fn malloc_on(&mut self, who: Who, class: u32, page: u32, size: u64, site: u64) -> Reply
-        requires kept { IsCore self.old }
+    fn malloc_on(
+        &mut self,
+        who: Who,
+        class: u32,
+        page: u32,
+        pair: Pair,
+        size: u64,
+        site: u64,
+    ) -> Reply
+        requires words { HasTwoWords self.old pair.first pair.second }
         requires room { HasRoom self.old }
         requires served { IsServed (rules_in self.old) size class }
-        requires own { own_page (places (rules_in self.old) (state_in self.old)) self.old.held.items class (first_word (rules_in self.old) (state_in self.old)) ≡ Some page }
+        requires own { own_page (places (rules_in self.old) (state_in self.old)) self.old.held.items class pair.first ≡ Some page }
         ensures kept { IsCore self.new }
         ensures added { Adds self.old self.new who (Op.Malloc size site) result }
     {
-        let words = self.two_words();
-        let second = self.word(self.drawn + 1);
-        let address = self.give(page, class, second, size, site);
-        self.drawn += 2;
-        let reply = Reply::Block(address);
-        self.enter(CallEntry {
-            who,
-            op: Op::Malloc { size, site },
-            reply,
-            words,
-            looks: LookList::empty(self.alloc),
-            taken: None,
+        let address = self.give(page, class, pair.second, size, site);
+        let search = Search {
             claim: None,
-            release: None,
-        });
-        reply
+            looks: LookList::empty(self.alloc),
+        };
+        self.answer_malloc(who, size, site, Reply::Block(address), pair, search)
     }
 
     /// Asks the zones for a page by the word. The room for looks is used up where a zone was passed over.
@@ -202,70 +211,101 @@ impl Core {
     }
 
     /// An allocation for which the pool has no page.
-    fn malloc_claimed(&mut self, who: Who, class: u32, size: u64, site: u64) -> Reply
-        requires kept { IsCore self.old }
+    fn malloc_claimed(&mut self, who: Who, class: u32, pair: Pair, size: u64, site: u64) -> Reply
+        requires words { HasTwoWords self.old pair.first pair.second }
         requires room { HasRoom self.old }
         requires served { IsServed (rules_in self.old) size class }
-        requires own { own_page (places (rules_in self.old) (state_in self.old)) self.old.held.items class (first_word (rules_in self.old) (state_in self.old)) ≡ None }
+        requires own { own_page (places (rules_in self.old) (state_in self.old)) self.old.held.items class pair.first ≡ None }
         ensures kept { IsCore self.new }
         ensures added { Adds self.old self.new who (Op.Malloc size site) result }
     {
-        let words = self.two_words();
-        let first = self.word(self.drawn);
-        let second = self.word(self.drawn + 1);
-        let Search { claim, looks } = self.search(first);
-        match claim {
+        let search = self.search(pair.first);
+        match search.claim {
             Some(found) => {
                 let page = 32 * found.zone + found.first;
                 self.hold(page);
-                let address = self.give(page, class, second, size, site);
-                self.drawn += 2;
-                let reply = Reply::Block(address);
-                self.enter(CallEntry {
-                    who,
-                    op: Op::Malloc { size, site },
-                    reply,
-                    words,
-                    looks,
-                    taken: None,
-                    claim,
-                    release: None,
-                });
-                reply
+                let address = self.give(page, class, pair.second, size, site);
+                self.answer_malloc(who, size, site, Reply::Block(address), pair, search)
             }
             None => {
-                self.drawn += 2;
-                let reply = Reply::Null(Why::NoRun);
-                self.enter(CallEntry {
-                    who,
-                    op: Op::Malloc { size, site },
-                    reply,
-                    words,
-                    looks,
-                    taken: None,
-                    claim,
-                    release: None,
-                });
-                reply
+                let reply = null_or_fault(self.opts.xmalloc, Why::NoRun);
+                self.answer_malloc(who, size, site, reply, pair, search)
             }
         }
+    }
+
+    // The entry of an allocation.
+    fn answer_malloc(
+        &mut self,
+        who: Who,
+        size: u64,
+        site: u64,
+        reply: Reply,
+        pair: Pair,
+        search: Search,
+    ) -> Reply
+        requires short { length self.old.journal.items < 2 ^ 32 - 1 }
+        requires room { 1 ≤ self.old.journal.spare }
+        ensures reply { result ≡ reply }
+        ensures added { AddsMalloc self.old self.new who size site reply (pair.first ∷ pair.second ∷ []) search.looks.items search.claim }
+    {
+        self.enter(CallEntry {
+            who,
+            op: Op::Malloc { size, site },
+            reply,
+            words: two_words(pair),
+            looks: search.looks,
+            taken: None,
+            claim: search.claim,
+            release: None,
+        });
+        reply
     }
 
     /// Allocates, as in malloc(3), `size` bytes.
     pub(crate) fn malloc(&mut self, who: Who, size: u64, site: u64) -> Reply
         requires kept { IsCore self.old }
         requires room { HasRoom self.old }
-        requires some { 1 ≤ size }
-        requires small { size ≤ 2048 }
+        requires served { IsSome (served_class (rules_in self.old) size) }
         ensures kept { IsCore self.new }
         ensures added { Adds self.old self.new who (Op.Malloc size site) result }
     {
-        let class = served(size);
-        let word = self.word(self.drawn);
-        match choose_page(&self.live, &self.slots, &self.held, class, word) {
-            Some(page) => self.malloc_on(who, class, page, size, site),
-            None => self.malloc_claimed(who, class, size, site),
+        let class = served(size, self.opts.canary);
+        let first = self.draw();
+        let second = self.draw();
+        let pair = Pair { first, second };
+        match choose_page(
+            self.opts.canary,
+            &self.live,
+            &self.slots,
+            &self.held,
+            class,
+            first,
+        ) {
+            Some(page) => self.malloc_on(who, class, page, pair, size, site),
+            None => self.malloc_claimed(who, class, pair, size, site),
         }
+    }
+}
+
+// The words of an allocation.
+fn two_words(pair: Pair) -> Drawn
+    ensures { result ≡ pair.first ∷ pair.second ∷ [] }
+{
+    let mut words = Drawn::empty();
+    words.push(pair.first);
+    words.push(pair.second);
+    words
+}
+
+// A null, or where the option says so the fault in its place.
+fn null_or_fault(xmalloc: bool, why: Why) -> Reply
+    ensures { result ≡ (if xmalloc then Reply.Fault (Fault.OutOfMemory why) else Reply.Null why) }
+{
+    if xmalloc {
+        Reply::Fault(Fault::OutOfMemory(why))
+    } else {
+        Reply::Null(why)
     }
 }
 
@@ -277,14 +317,14 @@ fn count_below(pages: &[u32], page: u32) -> usize
     pages.iter().filter(|other| **other < page).count()
 }
 
-// The class of a size that a pool serves without canaries.
-fn served(size: u64) -> u32
-    requires some { 1 ≤ size }
-    requires small { size ≤ 2048 }
-    ensures class { class_of size false ≡ Some result }
+// The class of a size that is a chunk's.
+fn served(size: u64, canary: bool) -> u32
+    requires { IsSome (if size == 0 then None else class_of size canary) }
+    ensures class { class_of size canary ≡ Some result }
+    ensures some { 1 ≤ size }
     ensures is { IsTrue (is_class result) }
 {
-    match class_of(size, false) {
+    match class_of(size, canary) {
         Some(class) => class.0,
         None => unreachable!(),
     }

@@ -1,8 +1,14 @@
-ghost use Rattle.std.specs.Prelude.{◌≡◌};
+ghost use Rattle.std.specs.Prelude.{◌≡◌, ◌≤◌, [], IfOk, IsSome};
+ghost use Rattle.om_model.specs.LawfulJournal.{served_class};
 
 use super::*;
 use om_geom::Addr;
 use om_model::{Entry, Fault, Move, Place, Reply, Who, slow};
+use om_opts::Opts;
+use om_words::Words;
+use std::alloc::{AllocError, Global};
+use std::process::Abort;
+use std::sync::Wait;
 use std::test::Fail;
 
 fn who(command: u32) -> Who
@@ -15,14 +21,49 @@ fn who(command: u32) -> Who
     }
 }
 
+// A pool that draws one word again and again.
+fn pool_of(alloc: Global, opts: Opts, word: u32) -> Result<Pool, Fail>
+    ensures options { IfOk result (λ pool. pool.rules.options ≡ opts) }
+    ensures entries { IfOk result (λ pool. pool.journal.items ≡ []) }
+{
+    let words = Words::listed(vec![in alloc; word]?)?;
+    Ok(Pool::start(alloc, opts, words)?)
+}
+
+// Allocates, where the journal is still short.
+fn malloc<R: Abort + Wait>(
+    rt: &R,
+    pool: &mut Pool,
+    command: u32,
+    size: u64,
+) -> Result<Reply, AllocError>
+    requires { IsSome (served_class pool.old.rules size) }
+    ensures { pool.new.rules ≡ pool.old.rules }
+{
+    assert!(rt; pool.journal().len() < 2_000);
+    pool.reserve()?;
+    Ok(pool.malloc(rt, who(command), size, 0))
+}
+
+fn free<R: Abort + Wait>(
+    rt: &R,
+    pool: &mut Pool,
+    command: u32,
+    address: u64,
+) -> Result<Reply, AllocError>
+    ensures { pool.new.rules ≡ pool.old.rules }
+{
+    assert!(rt; pool.journal().len() < 2_000);
+    pool.reserve()?;
+    Ok(pool.free(rt, who(command), Addr(address)))
+}
+
 // A pool over the words 5, 5, ..: the canary byte is 6, and the block goes on page 5, at place 5.
 #[test]
 fn words_choose_page_and_place(rt: HostRuntime) -> Result<(), Fail> {
-    let mut pool = Pool::start(rt.alloc(), vec![in rt.alloc(); 5]?)?;
+    let mut pool = pool_of(rt.alloc(), Opts::start(), 5)?;
     assert_eq!(rt; pool.canary(), 6);
-    pool.reserve()?;
-    let first = pool.malloc(&rt, who(1), 100, 0);
-    assert_eq!(rt; first, Reply::Block(0x15280));
+    assert_eq!(rt; malloc(&rt, &mut pool, 1, 100)?, Reply::Block(0x15280));
     let used: [Place; 0] = [];
     assert_eq!(rt; slow::picked_place(&used, 5, 128, 5), Some(5));
     Ok(())
@@ -31,53 +72,108 @@ fn words_choose_page_and_place(rt: HostRuntime) -> Result<(), Fail> {
 // With the word 0 alone every free takes slot 0, so a second free is seen.
 #[test]
 fn a_double_free_is_seen(rt: HostRuntime) -> Result<(), Fail> {
-    let mut pool = Pool::start(rt.alloc(), vec![in rt.alloc(); 0]?)?;
-    pool.reserve()?;
-    let block = pool.malloc(&rt, who(1), 100, 0);
-    assert_eq!(rt; block, Reply::Block(0x10000));
-    pool.reserve()?;
-    let freed = pool.free(&rt, who(2), Addr(0x10000));
-    assert_eq!(rt; freed, Reply::Done);
-    pool.reserve()?;
-    let again = pool.free(&rt, who(3), Addr(0x10000));
-    assert_eq!(rt; again, Reply::Fault(Fault::DoubleFree));
+    let mut pool = pool_of(rt.alloc(), Opts::start(), 0)?;
+    assert_eq!(rt; malloc(&rt, &mut pool, 1, 100)?, Reply::Block(0x10000));
+    assert_eq!(rt; free(&rt, &mut pool, 2, 0x10000)?, Reply::Done);
+    assert_eq!(rt;
+        free(&rt, &mut pool, 3, 0x10000)?,
+        Reply::Fault(Fault::DoubleFree)
+    );
     Ok(())
 }
 
-// Two blocks fill a page, so the blocks lie one behind the other on 66 pages. The block that is freed waits,
-// and the one before it becomes free. So the free of block 130 leaves the 65th free page, 0 in zone 2.
+// The words 1, 0, 0, 1, 2: the second free draws a slot that doesn't hold the place.
+fn freed_twice<R: Abort + Wait>(rt: &R, alloc: Global, freecheck: bool) -> Result<Reply, Fail> {
+    let opts = Opts {
+        freecheck,
+        ..Opts::start()
+    };
+    let words = Words::listed(vec![in alloc; 1, 0, 0, 1, 2]?)?;
+    let mut pool = Pool::start(alloc, opts, words)?;
+    assert_eq!(rt; malloc(rt, &mut pool, 1, 100)?, Reply::Block(0x10000));
+    assert_eq!(rt; free(rt, &mut pool, 2, 0x10000)?, Reply::Done);
+    Ok(free(rt, &mut pool, 3, 0x10000)?)
+}
+
 #[test]
-fn the_65th_free_page_is_released(rt: HostRuntime) -> Result<(), Fail> {
-    let mut pool = Pool::start(rt.alloc(), vec![in rt.alloc(); 0]?)?;
-    for i in 0..132 {
-        assert!(rt; pool.journal().len() < 1_000);
-        pool.reserve()?;
-        let block = pool.malloc(&rt, who(i + 1), 2048, 0);
+fn freecheck_sees_every_slot(rt: HostRuntime) -> Result<(), Fail> {
+    let seen = Reply::Fault(Fault::DoubleFree);
+    assert_eq!(rt; freed_twice(&rt, rt.alloc(), false)?, Reply::Done);
+    assert_eq!(rt; freed_twice(&rt, rt.alloc(), true)?, seen);
+    Ok(())
+}
+
+// With canaries a place of 128 bytes has no room for a block of 128.
+#[test]
+fn canaries_take_the_next_class(rt: HostRuntime) -> Result<(), Fail> {
+    let opts = Opts {
+        canary: true,
+        ..Opts::start()
+    };
+    let mut pool = pool_of(rt.alloc(), opts, 1)?;
+    assert_eq!(rt; malloc(&rt, &mut pool, 1, 128)?, Reply::Block(0x11100));
+    Ok(())
+}
+
+// Two blocks fill a page, so the blocks lie one behind the other.
+fn fill<R: Abort + Wait>(rt: &R, pool: &mut Pool, blocks: u32) -> Result<(), Fail>
+    requires { IsSome (served_class pool.old.rules 2048) }
+{
+    for i in 0..blocks {
+        let block = malloc(rt, pool, i, 2048)?;
         assert_eq!(rt; block, Reply::Block(0x10000 + 2048 * u64::from(i)));
     }
-    for i in 0..132 {
-        assert!(rt; pool.journal().len() < 1_000);
-        pool.reserve()?;
-        let freed = pool.free(&rt, who(i + 133), Addr(0x10000 + 2048 * u64::from(i)));
+    Ok(())
+}
+
+fn free_all<R: Abort + Wait>(rt: &R, pool: &mut Pool, blocks: u32) -> Result<(), Fail> {
+    for i in 0..blocks {
+        let freed = free(rt, pool, i, 0x10000 + 2048 * u64::from(i))?;
         assert_eq!(rt; freed, Reply::Done);
     }
-    assert_eq!(rt; pool.journal().len(), 264);
+    Ok(())
+}
+
+// The block that is freed waits, and the one before it becomes free. So the last free but one leaves one
+// free page more than the cache keeps.
+fn release_past<R: Abort + Wait>(rt: &R, alloc: Global, cache: u32) -> Result<(), Fail>
+    requires { cache ≤ 256 }
+{
+    let opts = Opts {
+        cache,
+        ..Opts::start()
+    };
+    let mut pool = pool_of(alloc, opts, 0)?;
+    let blocks = 2 * cache + 4;
+    fill(rt, &mut pool, blocks)?;
+    free_all(rt, &mut pool, blocks)?;
+    assert_eq!(rt; pool.journal().len(), 2 * blocks);
+    let released = Move {
+        zone: cache / 32,
+        version: cache % 32 + 3,
+        first: cache % 32,
+        count: 1,
+    };
     for i in 0..pool.journal().len() {
         let Entry::Call(call) = pool.journal().entry(i) else {
             continue;
         };
-        let released = Move {
-            zone: 2,
-            version: 3,
-            first: 0,
-            count: 1,
+        let wanted = if i == 2 * blocks - 2 {
+            Some(released)
+        } else {
+            None
         };
-        let wanted = if i == 262 { Some(released) } else { None };
-        assert_eq!(rt; call.release, wanted);
+        assert_eq!(rt; call.release, wanted, "entry {i} at a cache of {cache}");
     }
-    assert!(rt; pool.journal().len() < 1_000);
-    pool.reserve()?;
-    let missed = pool.free(&rt, who(265), Addr(0x10000 + 2048 * 128));
+    let missed = free(rt, &mut pool, 0, 0x10000 + 4096 * u64::from(cache))?;
     assert_eq!(rt; missed, Reply::Miss);
+    Ok(())
+}
+
+#[test]
+fn one_page_more_than_the_cache_is_released(rt: HostRuntime) -> Result<(), Fail> {
+    for cache in [0, 1, 64, 256] {
+        release_past(&rt, rt.alloc(), cache)?;
+    }
     Ok(())
 }

@@ -1,6 +1,5 @@
-ghost use Rattle.std.specs.Prelude.{◌≡◌, ℕ, ◌+◌, ◌-◌, ◌/◌, ◌%◌, ◌^◌, ◌<◌, ◌≤◌, [], ◌||◌, ◌&&◌, not, length, Some, None, IfOk, IfSome, IfNone, replicate, slice_index, slice_set};
-ghost use Rattle.om_geom.specs.Fit.{has_bit, is_in_run};
-ghost use Rattle.om_pool.specs.Zones.{ZoneTable, ArePassed, CanMove, ClaimGives, fit_in, IsReleased, version_of, zone_of};
+ghost use Rattle.std.specs.Prelude.{◌≡◌, ◌+◌, ◌-◌, ◌/◌, ◌%◌, ◌^◌, ◌<◌, ◌≤◌, [], length, Some, None, IfOk, IfSome, IfNone, replicate, slice_set};
+ghost use Rattle.om_pool.specs.Zones.{ZoneTable, ArePassed, CanMove, ClaimGives, fit_in, IsReleased, version_of, searched_in};
 
 use om_geom::{clear_run, fit, set_run};
 use om_model::{Look, LookList, Move};
@@ -89,7 +88,7 @@ impl Zones {
         ensures passed { ArePassed self.now n word looks.new.items }
         ensures none { IfNone result (length looks.new.items ≡ length self.now.bits) }
         ensures few_passed { IfSome result (λ found. length looks.new.items < length self.now.bits) }
-        ensures zone { IfSome result (λ found. found.zone ≡ zone_of self.now word (length looks.new.items)) }
+        ensures zone { IfSome result (λ found. found.zone ≡ searched_in self.now word (length looks.new.items)) }
         ensures first { IfSome result (λ found. fit_in self.now n word found.zone ≡ Some found.first) }
         ensures within { IfSome result (λ found. found.first + n ≤ 32) }
         ensures spare { looks.old.spare ≤ looks.new.spare + length looks.new.items }

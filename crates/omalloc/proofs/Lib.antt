@@ -8,3 +8,5 @@ pub mod TopLaws
 pub mod AddsLaws
 pub mod Titles
 pub mod WholeText
+pub mod CommandLists
+pub mod HeadForm

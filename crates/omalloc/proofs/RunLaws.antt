@@ -1,6 +1,6 @@
 -- A script's run, command by command: so far its calls have these replies, and the rest of the run follows,
 -- whatever later replies are.
-use Rattle.std.proofs.Common.{◌≡◌, ℕ, zero, suc, ◌+◌, ◌<◌, ◌==◌, Bool, true, false, cond, if◌then◌else◌, Option, Some, None, List, [], ◌∷◌, ◌++◌, length, map, replicate, refl, sym, subst, ◌∙◌, ap, arith, append_assoc, append-nil, drop, drop-cons, get_or, ◌≤◌, ◌||◌, length-append, add-one, IsTrue, inl, inr, ◌⊎◌}
+use Rattle.std.proofs.Common.{◌≡◌, ℕ, zero, suc, ◌+◌, ◌<◌, ◌==◌, Bool, true, false, if◌then◌else◌, Option, Some, None, List, [], ◌∷◌, ◌++◌, length, map, replicate, refl, sym, subst, ◌∙◌, ap, arith, append_assoc, append-nil, drop, drop-cons, get_or, ◌≤◌, ◌||◌, length-append, add-one, inr}
 use Rattle.std.specs.List.{flat_map, AllByRecursion, list_any, slice_index_or}
 use Rattle.std.proofs.lemmas.List.{map-append, drop_all}
 use Rattle.std.proofs.lemmas.List.Concat.{flat_map-append}
@@ -18,7 +18,14 @@ use Rattle.om_model.specs.declared.entry.Entry.TheVariants as journal
 use Rattle.om_model.specs.LawfulJournal.{phases_in}
 use Rattle.om_model.specs.ScriptRun.{Call, Ran, nothing, with_call, with_outcome, command_run, run_from, op_of, outcome_of, assigned, is_fault, IsEnded}
 use Rattle.om_model.specs.ScriptCalls.{Asked, AreCalls, OnlyCallers, CallerBelow, IsAnswered, IsScriptRun, last_reply, seen_in, asked_in}
-use Rattle.omalloc.specs.Run.{who_of, IsCall, IsDone, IsCommandRun}
+use Rattle.om_opts.specs.declared.options.Opts.{Opts}
+use Rattle.om_words.specs.DrawnWords.{WordSource, undrawn}
+use Rattle.om_words.specs.PlannedWords.{source_for}
+use Rattle.om_words.specs.declared.plan.WordPlan.{WordPlan}
+use Rattle.om_model.specs.Rules.{Rules}
+use Rattle.om_model.specs.OutputText.{Head, rules_of}
+use Rattle.om_pool.specs.PoolView.{lone_rules}
+use Rattle.omalloc.specs.Run.{who_of, IsDone, IsCommandRun}
 
 abbrev pub calls_of : List (Call × List Reply) → List Call
 calls_of answered = map (λ a. a.0) answered
@@ -220,3 +227,12 @@ IsPart-pushed whole next entries outcomes pushed same part = subst (λ os. IsPar
 
 pub IsEnded-pushed : (commands : List Command) (outcomes pushed : List Outcome) → pushed ≡ outcomes → IsEnded commands outcomes → IsEnded commands pushed
 IsEnded-pushed commands outcomes pushed same ended = subst (λ os. IsEnded commands os) (sym same) ended
+
+-- the rules of a pool that is alone are those of the head
+pub lone_head : (options : Opts) (zones : ℕ) (plan : WordPlan) (warned : List ℕ) (head : Head) (words : WordSource) →
+    record { options = options; zones = zones; plan = plan; warned = warned } ≡ head → head.zones ≡ 64 → words ≡ undrawn (source_for plan 0) →
+    lone_rules options words.source ≡ rules_of head 0
+lone_head options zones plan warned head words same all drawn =
+    let count : zones ≡ 64 = ap (λ (h : Head). h.zones) same ∙ all in
+    let P : ℕ → Rules = λ n. record { options = options; zones = n; words = source_for plan 0; pool = 0 } in
+    ap (λ (w : WordSource). lone_rules options w.source) drawn ∙ ap P (sym count) ∙ ap (λ (h : Head). rules_of h 0) same

@@ -2,7 +2,7 @@
 use Rattle.std.proofs.Common.{◌≡◌, refl, sym, ap, ◌∙◌, subst, Bool, true, false, cond, List, [], ◌∷◌, ◌++◌, ℕ, ◌+◌, ◌<◌, ◌≤◌, ◌-◌, length, take, drop, arith, Some, None, eqb, ltb, unwrap_or}
 use Rattle.std.proofs.lemmas.Grind.{common_steps}
 use Rattle.std.proofs.lemmas.Bool.Decides.{nat_tests}
-use Rattle.std.specs.List.{All, onto_first, position_or_len, position, before_first, after_first}
+use Rattle.std.specs.List.{All, onto_first, slice_split, position_or_len, position, before_first, after_first}
 use Rattle.std.proofs.lemmas.List.Elements.{All-head, All-tail}
 use Rattle.std.proofs.lemmas.List.Sums.{split_at_first, fails_before_first, passes_at_first, prefix_len-le-length}
 use Rattle.std.proofs.lemmas.List.Splits.{slice_split_first, slice_split_none, length-slice_split}
@@ -46,7 +46,7 @@ lines_of_first xs l =
 after_place : (xs : List ℕ) (k : ℕ) → take (length xs - k) (drop k xs) ≡ drop k xs
 after_place xs k = grind (arith, common_steps)
 
--- what a search for a byte says of the lines and the words
+-- what a search for a byte says of the lines and the parts
 pub line_found : (xs : List ℕ) (i : ℕ) → Some i ≡ position (λ b. eqb b 10) xs → text_lines xs ≡ take i xs ∷ text_lines (take (length xs - (i + 1)) (drop (i + 1) xs))
 line_found xs i e =
     let at : (position_or_len (λ b. eqb b 10) xs ≡ i) × (i < length xs) = found_at (position_or_len (λ b. eqb b 10) xs) (length xs) i e in
@@ -64,15 +64,16 @@ pub line_whole : (xs : List ℕ) → None ≡ position (λ b. eqb b 10) xs → 0
 line_whole [] e l = absurd (omega arith)
 line_whole (x ∷ xs) e l = lines_of_none x xs (none_passes (λ b. eqb b 10) (x ∷ xs) e)
 
-pub word_found : (xs : List ℕ) (i : ℕ) → Some i ≡ position (λ b. eqb b 32) xs → words_of xs ≡ take i xs ∷ words_of (take (length xs - (i + 1)) (drop (i + 1) xs))
-word_found xs i e =
-    let at : (position_or_len (λ b. eqb b 32) xs ≡ i) × (i < length xs) = found_at (position_or_len (λ b. eqb b 32) xs) (length xs) i e in
-    let split : words_of xs ≡ take i xs ∷ words_of (drop (i + 1) xs) =
-    subst (λ k. words_of xs ≡ take k xs ∷ words_of (drop (k + 1) xs)) at.0 (slice_split_first (λ b. eqb b 32) xs 0 (omega (arith, at))) in
-    split ∙ ap (λ rest. take i xs ∷ words_of rest) (sym (after_place xs (i + 1)))
+pub part_found : (byte : ℕ) (xs : List ℕ) (i : ℕ) → Some i ≡ position (λ b. eqb b byte) xs → slice_split (λ b. eqb b byte) xs ≡ take i xs ∷ slice_split (λ b. eqb b byte) (take (length xs - (i + 1)) (drop (i + 1) xs))
+part_found byte xs i e =
+    let at : (position_or_len (λ b. eqb b byte) xs ≡ i) × (i < length xs) = found_at (position_or_len (λ b. eqb b byte) xs) (length xs) i e in
+    let parts = slice_split (λ b. eqb b byte) in
+    let split : parts xs ≡ take i xs ∷ parts (drop (i + 1) xs) =
+    subst (λ k. parts xs ≡ take k xs ∷ parts (drop (k + 1) xs)) at.0 (slice_split_first (λ b. eqb b byte) xs 0 (omega (arith, at))) in
+    split ∙ ap (λ rest. take i xs ∷ parts rest) (sym (after_place xs (i + 1)))
 
-pub word_whole : (xs : List ℕ) → None ≡ position (λ b. eqb b 32) xs → words_of xs ≡ xs ∷ []
-word_whole xs e = slice_split_none (λ b. eqb b 32) xs (none_passes (λ b. eqb b 32) xs e)
+pub part_whole : (byte : ℕ) (xs : List ℕ) → None ≡ position (λ b. eqb b byte) xs → slice_split (λ b. eqb b byte) xs ≡ xs ∷ []
+part_whole byte xs e = slice_split_none (λ b. eqb b byte) xs (none_passes (λ b. eqb b byte) xs e)
 
 pub place_or_len : {X : Type 0} (p : X → Bool) (xs : List X) → unwrap_or (position p xs) (length xs) ≡ position_or_len p xs
 place_or_len p xs = found_or_len (position_or_len p xs) (length xs) (prefix_len-le-length _ xs)

@@ -1,31 +1,62 @@
--- The lines above the pools and the titles, with their fixed numbers written out.
-use Rattle.std.proofs.Common.{◌≡◌, ℕ, ◌+◌, ◌%◌, ◌<◌, List, [], ◌∷◌, ◌++◌, length, map, get_or, refl, sym, ap, arith, append_assoc, append-nil, codes}
-use Rattle.std.specs.List.{flat_map, join_with_byte}
+-- The lines above the pools and the titles, in the pieces in which they are written.
+use Rattle.std.proofs.Common.{◌≡◌, ℕ, zero, suc, ◌+◌, ◌<◌, ◌≤◌, List, [], ◌∷◌, ◌++◌, length, map, take, refl, sym, ◌∙◌, ap, arith, append_assoc, codes}
+use Rattle.std.specs.List.{flat_map, join_with_byte, slice_index}
 use Rattle.std.specs.Fmt.{digits, decimal}
-use Rattle.om_model.specs.OutputText.{head_lines, pool_title, ended_line, byte_text}
-use Rattle.omalloc.specs.Report.{start_head}
+use Rattle.std.proofs.lemmas.List.Folds.{flat_map-map}
+use Rattle.om_opts.specs.declared.options.Opts.{Opts}
+use Rattle.om_words.specs.declared.plan.WordPlan.{WordPlan}
+use Rattle.om_model.specs.Rules.{Rules, canary_byte}
+use Rattle.om_model.specs.OutputText.{Head, head_lines, flags_text, plan_text, warning_line, rules_of, pool_title, ended_line, byte_text}
+use Rattle.omalloc.specs.Report.{warned_line}
 
--- with a comma before each but the first
-pub listed : (first : ℕ) (rest : List ℕ) → decimal first ++ flat_map (λ word. 44 ∷ decimal word) rest ≡ join_with_byte 44 (map decimal (first ∷ rest))
-listed first [] = append-nil (decimal first)
-listed first (next ∷ rest) = ap (λ text. decimal first ++ 44 ∷ text) (listed next rest)
+-- one word more, behind a comma
+listed_step : (words : List ℕ) (i : ℕ) → suc i < length words →
+    join_with_byte 44 (map decimal (take (suc (suc i)) words)) ≡ join_with_byte 44 (map decimal (take (suc i) words)) ++ 44 ∷ decimal (slice_index words (suc i))
+listed_step [] i below = absurd (omega arith)
+listed_step (first ∷ []) i below = absurd (omega arith)
+listed_step (first ∷ second ∷ rest) zero below = refl
+listed_step (first ∷ second ∷ rest) (suc i) below =
+    ap (λ text. decimal first ++ 44 ∷ text) (listed_step (second ∷ rest) i (omega arith))
+    ∙ sym (append_assoc (decimal first) (44 ∷ join_with_byte 44 (map decimal (take (suc i) (second ∷ rest)))) (44 ∷ decimal (slice_index (second ∷ rest) (suc i))))
 
-pub head_text : (words : List ℕ) →
-    codes "omalloc 1\nzones 64 pools 1 flags ------- junk 1 cache 64\n" ++ (codes "words list " ++ (join_with_byte 44 (map decimal words) ++ 10 ∷ []))
-    ≡ flat_map ended_line (head_lines (start_head words))
-unfolding head_lines digits
-head_text words = ap (λ text. codes "omalloc 1\nzones 64 pools 1 flags ------- junk 1 cache 64\nwords list " ++ text) (sym (append-nil (join_with_byte 44 (map decimal words) ++ 10 ∷ [])))
+pub listed_next : (before : List ℕ) (words : List ℕ) (i word : ℕ) → 1 ≤ i → i < length words → word ≡ slice_index words i →
+    ((before ++ join_with_byte 44 (map decimal (take i words))) ++ 44 ∷ []) ++ decimal word ≡ before ++ join_with_byte 44 (map decimal (take (i + 1) words))
+listed_next before words zero word some below is = absurd (omega arith)
+listed_next before words (suc i) word some below is =
+    let next : suc i + 1 ≡ suc (suc i) = omega arith in
+    let front = join_with_byte 44 (map decimal (take (suc i) words)) in
+    append_assoc (before ++ front) (44 ∷ []) (decimal word)
+    ∙ append_assoc before front (44 ∷ decimal word)
+    ∙ ap (λ n. before ++ (front ++ 44 ∷ decimal n)) is
+    ∙ ap (λ text. before ++ text) (sym (listed_step words i below))
+    ∙ ap (λ n. before ++ join_with_byte 44 (map decimal (take n words))) (sym next)
 
-pub pool_title_text : (words : List ℕ) (entries : ℕ) → 0 < length words →
-    codes "pool 0 canary " ++ (byte_text (get_or words 0 0 % 255 + 1) ++ (codes " entries " ++ (decimal entries ++ 10 ∷ [])))
-    ≡ ended_line (pool_title (start_head words) 0 entries)
-unfolding digits
-pool_title_text words entries some =
-    let first : 0 % length words ≡ 0 = omega arith in
-    rw first refl
-
-pub four_parts : (before a b c d : List ℕ) → (((before ++ a) ++ b) ++ c) ++ d ≡ before ++ (a ++ (b ++ (c ++ d)))
+-- the lines of the head
+four_parts : (before a b c d : List ℕ) → (((before ++ a) ++ b) ++ c) ++ d ≡ before ++ (a ++ (b ++ (c ++ d)))
 four_parts before a b c d = simp append_assoc
 
-pub five_parts : (before a b c d e : List ℕ) → ((((before ++ a) ++ b) ++ c) ++ d) ++ e ≡ before ++ (a ++ (b ++ (c ++ (d ++ e))))
-five_parts before a b c d e = simp append_assoc
+abbrev options_line : Opts → ℕ → List ℕ
+options_line o zones = codes "zones " ++ decimal zones ++ codes " pools " ++ decimal o.pools ++ codes " flags " ++ flags_text o ++ codes " junk " ++ decimal o.junk ++ codes " cache " ++ decimal o.cache
+
+head_text : (head : Head) →
+    codes "omalloc 1\n" ++ (ended_line (options_line head.options head.zones) ++ (ended_line (codes "words " ++ plan_text head.plan) ++ flat_map warned_line head.warned)) ≡ flat_map ended_line (head_lines head)
+unfolding head_lines
+head_text head =
+    ap (λ text. codes "omalloc 1\n" ++ (ended_line (options_line head.options head.zones) ++ (ended_line (codes "words " ++ plan_text head.plan) ++ text))) (sym (flat_map-map ended_line warning_line head.warned))
+
+pub head_added : (before : List ℕ) (options : Opts) (zones : ℕ) (plan : WordPlan) (warned given : List ℕ) (head : Head) →
+    record { options = options; zones = zones; plan = plan; warned = warned } ≡ head → given ≡ warned →
+    (((before ++ codes "omalloc 1\n") ++ ended_line (options_line options zones)) ++ ended_line (codes "words " ++ plan_text plan)) ++ flat_map warned_line given ≡ before ++ flat_map ended_line (head_lines head)
+head_added before options zones plan warned given head same is =
+    let inside : Head = record { options = options; zones = zones; plan = plan; warned = warned } in
+    four_parts before (codes "omalloc 1\n") (ended_line (options_line options zones)) (ended_line (codes "words " ++ plan_text plan)) (flat_map warned_line given)
+    ∙ ap (λ bytes. before ++ (codes "omalloc 1\n" ++ (ended_line (options_line options zones) ++ (ended_line (codes "words " ++ plan_text plan) ++ flat_map warned_line bytes)))) is
+    ∙ ap (λ text. before ++ text) (head_text inside)
+    ∙ ap (λ h. before ++ flat_map ended_line (head_lines h)) same
+
+-- the title of pool 0, whose rules are those of the head
+pub pool_title_text : (head : Head) (rules : Rules) (canary entries : ℕ) → rules ≡ rules_of head 0 → canary ≡ canary_byte rules →
+    ended_line (codes "pool 0 canary " ++ byte_text canary ++ codes " entries " ++ decimal entries) ≡ ended_line (pool_title head 0 entries)
+unfolding digits
+pool_title_text head rules canary entries ruled drawn =
+    ap (λ byte. ended_line (codes "pool 0 canary " ++ byte_text byte ++ codes " entries " ++ decimal entries)) (drawn ∙ ap canary_byte ruled)

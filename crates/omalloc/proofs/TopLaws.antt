@@ -1,5 +1,5 @@
 -- A written run, and the answers of the parts of the program as answers of the whole.
-use Rattle.std.proofs.Common.{◌≡◌, ℕ, zero, suc, ◌+◌, ◌<◌, ◌≤◌, ◌⊎◌, inl, inr, Bool, true, false, ◌||◌, Option, Some, None, IfSome, Result, Ok, Err, List, [], ◌∷◌, ◌++◌, length, map, refl, sym, subst, ◌∙◌, ap, arith, append-nil}
+use Rattle.std.proofs.Common.{◌≡◌, ℕ, zero, suc, ◌<◌, ◌≤◌, inl, inr, Bool, true, false, ◌||◌, Option, Some, None, IfSome, IsSome, Result, Ok, Err, List, [], ◌∷◌, ◌++◌, length, refl, sym, subst, ◌∙◌, ap, arith, append-nil}
 use Rattle.std.specs.List.{slice_get, slice_index_or, list_any}
 use Rattle.om_io.specs.Sink.{Appends, AppendsFront}
 use Rattle.om_model.specs.declared.entry.Entry.{Entry}
@@ -8,20 +8,21 @@ use Rattle.om_model.specs.LawfulJournal.{IsLawful, state_of}
 use Rattle.om_model.specs.WellFormed.{IsWellFormed}
 use Rattle.om_model.specs.WellFormedLaws.{state_of-well_formed}
 use Rattle.om_model.specs.Looks.{AreLooks}
-use Rattle.om_model.specs.OutputText.{Head, Told, Content, rules_of, text_of}
-use Rattle.om_model.specs.ScriptCalls.{IsScriptRun, OnlyCallers}
+use Rattle.om_model.specs.OutputText.{Head, Told, rules_of, text_of}
+use Rattle.om_model.specs.ScriptCalls.{IsScriptRun}
 use Rattle.om_model.specs.ScriptRun.{is_fault}
-use Rattle.om_model.specs.ZoneOrder.{ZoneMove, IsZoneOrder, moves_of, moves_from}
-use Rattle.om_pool.specs.PoolView.{PoolView, IsRun, lone_rules}
+use Rattle.om_model.specs.ZoneOrder.{IsZoneOrder, moves_of, moves_from}
+use Rattle.om_pool.specs.PoolView.{PoolView, IsRun}
 use Rattle.omalloc.specs.AcceptedInput.{script_of}
 use Rattle.omalloc.specs.Answers.{Input, Output, IsAccepted, IsCause, IsRunOf, WritesRun, WritesFrontOfRun, WritesLine, IsAnswer, IsRunAnswer, IsRefusalAnswer, IsComplete, IsWordsAnswer}
-use Rattle.omalloc.specs.CommandWords.{are_run_words}
+use Rattle.omalloc.specs.CommandWords.{head_of_words}
 use Rattle.omalloc.specs.declared.refusal.Refusal.{Refusal}
 use Rattle.omalloc.specs.declared.refusal.Refusal.TheVariants.{Words, Line, TooLong}
 use Rattle.omalloc.specs.declared.status.Status.{Status}
 use Rattle.omalloc.specs.declared.status.Status.TheVariants as status
 use Rattle.omalloc.specs.Headline.{IsHeadline}
-use Rattle.omalloc.specs.Report.{start_head, content}
+use Rattle.omalloc.specs.Heads.{IsHead}
+use Rattle.omalloc.specs.Report.{content}
 use Rattle.omalloc.specs.Run.{RanAlone}
 use Rattle.omalloc.specs.Script.{ScriptText}
 
@@ -54,32 +55,32 @@ apart-alone : (head : Head) (entries : List Entry) → IsLawful (rules_of head 0
 apart-alone head entries lawful zero before rest below cut = state_of-well_formed (rules_of head 0) before rest (subst (λ es. IsLawful (rules_of head 0) es) cut lawful)
 apart-alone head entries lawful (suc pool) before rest below cut = absurd (omega arith)
 
-pub headline-alone : (script : ScriptText) (pool : PoolView) (outcomes : List Outcome) → RanAlone script pool outcomes → IsRun pool →
-    IsHeadline (start_head (0 ∷ [])) (script ∷ []) (content (0 ∷ []) pool.journal.items script.name outcomes)
-headline-alone script pool outcomes ran run =
+pub headline-alone : (head : Head) (script : ScriptText) (pool : PoolView) (outcomes : List Outcome) → head.options.pools ≡ 1 → RanAlone head script pool outcomes → IsRun pool →
+    IsHeadline head (script ∷ []) (content head pool.journal.items script.name outcomes)
+headline-alone head script pool outcomes one ran run =
     let entries = pool.journal.items in
     let told : Told = record { name = script.name; outcomes = outcomes } in
     let number : pool.rules.pool ≡ 0 = ap (λ r. r.pool) ran.rules in
     let moves : moves_of pool.rules.pool entries ≡ moves_from 0 (entries ∷ []) = ap (λ n. moves_of n entries) number ∙ moves_alone entries in
     let looks : AreLooks (moves_from 0 (entries ∷ [])) entries = subst (λ ms. AreLooks ms entries) moves run.looks in
-    let lawful : IsLawful (rules_of (start_head (0 ∷ [])) 0) entries = subst (λ rules. IsLawful rules entries) ran.rules run.lawful in
+    let lawful : IsLawful (rules_of head 0) entries = subst (λ rules. IsLawful rules entries) ran.rules run.lawful in
     record {
       head_is = refl;
-      pools = omega arith;
+      pools = sym one;
       board = refl;
       names = refl;
-      lawful = one_pool (λ n es. IsLawful (rules_of (start_head (0 ∷ [])) n) es) entries lawful;
-      apart = apart-alone (start_head (0 ∷ [])) entries lawful;
+      lawful = λ pool below. one_pool (λ n es. IsLawful (rules_of head n) es) entries lawful pool (omega (arith, one, below));
+      apart = λ pool before rest below. apart-alone head entries lawful pool before rest (omega (arith, one, below));
       order = subst (λ ms. IsZoneOrder ms) moves run.order;
-      looks = one_pool (λ n es. AreLooks (moves_from 0 (entries ∷ [])) es) entries looks;
-      ran = one_script script told entries ran.script_run;
+      looks = λ pool below. one_pool (λ n es. AreLooks (moves_from 0 (entries ∷ [])) es) entries looks pool (omega (arith, one, below));
+      ran = λ caller s t at_script at_told. subst (λ pools. IsScriptRun pools caller (length s.names) s.commands (entries ∷ []) t.outcomes) (sym one) (one_script script told entries ran.script_run caller s t at_script at_told);
       only = (ran.only, tt);
     }
 
-pub run-alone : (script : ScriptText) (pool : PoolView) (outcomes : List Outcome) (faulted : Bool) → RanAlone script pool outcomes → IsRun pool → faulted ≡ list_any is_fault outcomes →
-    IsRunOf script faulted (content (0 ∷ []) pool.journal.items script.name outcomes)
-run-alone script pool outcomes faulted ran run same = record {
-  headline = headline-alone script pool outcomes ran run;
+pub run-alone : (head : Head) (script : ScriptText) (pool : PoolView) (outcomes : List Outcome) (faulted : Bool) → IsHead head → RanAlone head script pool outcomes → IsRun pool → faulted ≡ list_any is_fault outcomes →
+    IsRunOf head script faulted (content head pool.journal.items script.name outcomes)
+run-alone head script pool outcomes faulted form ran run same = record {
+  headline = headline-alone head script pool outcomes form.pools ran run;
   ended = or_false (list_any is_fault outcomes) ∙ sym same;
 }
   where
@@ -88,37 +89,36 @@ run-alone script pool outcomes faulted ran run same = record {
     or_false false = refl
 
 -- what is written of the pool's journal, the script's name and the outcomes is a run
-run-told : (script : ScriptText) (pool : PoolView) (outcomes : List Outcome) (faulted : Bool) (entries : List Entry) (name : List ℕ) →
-    RanAlone script pool outcomes → IsRun pool → faulted ≡ list_any is_fault outcomes → entries ≡ pool.journal.items → name ≡ script.name →
-    IsRunOf script faulted (content (0 ∷ []) entries name outcomes)
-run-told script pool outcomes faulted entries name ran run same journal named =
-    subst (λ n. IsRunOf script faulted (content (0 ∷ []) entries n outcomes)) (sym named)
-    (subst (λ es. IsRunOf script faulted (content (0 ∷ []) es script.name outcomes)) (sym journal) (run-alone script pool outcomes faulted ran run same))
+run-told : (head : Head) (script : ScriptText) (pool : PoolView) (outcomes : List Outcome) (faulted : Bool) (name : List ℕ) →
+    IsHead head → RanAlone head script pool outcomes → IsRun pool → faulted ≡ list_any is_fault outcomes → name ≡ script.name →
+    IsRunOf head script faulted (content head pool.journal.items name outcomes)
+run-told head script pool outcomes faulted name form ran run same named =
+    subst (λ n. IsRunOf head script faulted (content head pool.journal.items n outcomes)) (sym named) (run-alone head script pool outcomes faulted form ran run same)
 
-pub WritesRun-told : (script : ScriptText) (output : Output) (pool : PoolView) (outcomes : List Outcome) (told faulted : Bool) (entries : List Entry) (name : List ℕ) →
-    RanAlone script pool outcomes → IsRun pool → told ≡ list_any is_fault outcomes → told ≡ faulted → entries ≡ pool.journal.items → name ≡ script.name →
-    Appends output.written output.written_after (text_of (content (0 ∷ []) entries name outcomes)) → WritesRun script output faulted
-WritesRun-told script output pool outcomes told faulted entries name ran run same is journal named added = record {
-  content = content (0 ∷ []) entries name outcomes;
-  run = run-told script pool outcomes faulted entries name ran run (sym is ∙ same) journal named;
+pub WritesRun-told : (head : Head) (script : ScriptText) (output : Output) (pool : PoolView) (outcomes : List Outcome) (told faulted : Bool) (name : List ℕ) →
+    IsHead head → RanAlone head script pool outcomes → IsRun pool → told ≡ list_any is_fault outcomes → told ≡ faulted → name ≡ script.name →
+    Appends output.written output.written_after (text_of (content head pool.journal.items name outcomes)) → WritesRun head script output faulted
+WritesRun-told head script output pool outcomes told faulted name form ran run same is named added = record {
+  content = content head pool.journal.items name outcomes;
+  run = run-told head script pool outcomes faulted name form ran run (sym is ∙ same) named;
   added = added;
 }
 
-pub WritesFrontOfRun-told : (script : ScriptText) (output : Output) (pool : PoolView) (outcomes : List Outcome) (told : Bool) (entries : List Entry) (name : List ℕ) →
-    RanAlone script pool outcomes → IsRun pool → told ≡ list_any is_fault outcomes → entries ≡ pool.journal.items → name ≡ script.name →
-    AppendsFront output.written output.written_after (text_of (content (0 ∷ []) entries name outcomes)) → WritesFrontOfRun script output
-WritesFrontOfRun-told script output pool outcomes told entries name ran run same journal named front =
-    (told, content (0 ∷ []) entries name outcomes, run-told script pool outcomes told entries name ran run same journal named, front)
+pub WritesFrontOfRun-told : (head : Head) (script : ScriptText) (output : Output) (pool : PoolView) (outcomes : List Outcome) (told : Bool) (name : List ℕ) →
+    IsHead head → RanAlone head script pool outcomes → IsRun pool → told ≡ list_any is_fault outcomes → name ≡ script.name →
+    AppendsFront output.written output.written_after (text_of (content head pool.journal.items name outcomes)) → WritesFrontOfRun head script output
+WritesFrontOfRun-told head script output pool outcomes told name form ran run same named front =
+    (told, content head pool.journal.items name outcomes, run-told head script pool outcomes told name form ran run same named, front)
 
 -- the answers of the parts are answers of the whole
-pub run_answer : (input : Input) (output : Output) (script : ScriptText) (s : Status) → IsAccepted input script → IsRunAnswer script output s → IsAnswer input output s
-run_answer input output script status.Finished accepted writes = (script, accepted, writes)
-run_answer input output script status.Faulted accepted writes = (script, accepted, writes)
-run_answer input output script (status.Refused refusal) accepted writes = absurd writes
-run_answer input output script status.Memory accepted (inl kept) = inl kept
-run_answer input output script status.Memory accepted (inr front) = inr (inl (script, accepted, front))
-run_answer input output script status.ReadFault accepted writes = absurd writes
-run_answer input output script status.WriteFault accepted (failed, front) = (failed, inl (script, accepted, front))
+pub run_answer : (input : Input) (output : Output) (head : Head) (script : ScriptText) (s : Status) → IsAccepted input head script → IsRunAnswer head script output s → IsAnswer input output s
+run_answer input output head script status.Finished accepted writes = (head, script, accepted, writes)
+run_answer input output head script status.Faulted accepted writes = (head, script, accepted, writes)
+run_answer input output head script (status.Refused refusal) accepted writes = absurd writes
+run_answer input output head script status.Memory accepted (inl kept) = inl kept
+run_answer input output head script status.Memory accepted (inr front) = inr (inl (head, script, accepted, front))
+run_answer input output head script status.ReadFault accepted writes = absurd writes
+run_answer input output head script status.WriteFault accepted (failed, front) = (failed, inl (head, script, accepted, front))
 
 pub refusal_answer : (input : Input) (output : Output) (refusal : Refusal) (s : Status) → IsCause input refusal → IsRefusalAnswer refusal output s → IsAnswer input output s
 refusal_answer input output refusal status.Finished cause writes = absurd writes
@@ -129,8 +129,13 @@ refusal_answer input output refusal status.Memory cause front = inr (inr (refusa
 refusal_answer input output refusal status.ReadFault cause writes = absurd writes
 refusal_answer input output refusal status.WriteFault cause (failed, front) = (failed, inr (refusal, cause, front))
 
-both_words : {b : Bool} → b ≡ true → b ≡ false → ⊥
-both_words given missing = cc
+some_or_none : {X : Type 0} {o : Option X} {x : X} → o ≡ Some x → o ≡ None → ⊥
+some_or_none some none = cc
+
+-- the words are accepted or refused
+both_words : {X : Type 0} (o : Option X) → IsSome o → o ≡ None → ⊥
+both_words (Some x) given missing = cc
+both_words None given missing = cc
 
 some_of : (P : List ℕ → Type 0) (left : Option (List ℕ)) (text : List ℕ) → left ≡ Some text → IfSome left P → P text
 some_of P left text same holds = let Q : Option (List ℕ) → Type 0 = λ o. IfSome o P in subst Q same holds
@@ -139,8 +144,8 @@ ok_or_err : {T E : Type 0} {r : Result T E} {x : T} {e : E} → r ≡ Ok x → r
 ok_or_err ok err = cc
 
 -- an accepted script isn't refused
-not-refused : (input : Input) (refusal : Refusal) (text : List ℕ) (script : ScriptText) → IsCause input refusal → are_run_words input.words ≡ true → input.left ≡ Some text → length text ≤ 16777216 → script_of text ≡ Ok script → ⊥
-not-refused input (Words number at) text script (missing, nine, first) given left short says = both_words given missing
+not-refused : (input : Input) (refusal : Refusal) (text : List ℕ) (script : ScriptText) → IsCause input refusal → IsSome (head_of_words input.words) → input.left ≡ Some text → length text ≤ 16777216 → script_of text ≡ Ok script → ⊥
+not-refused input (Words number at) text script (missing, nine, first) given left short says = both_words (head_of_words input.words) given missing
 not-refused input TooLong text script (words, none, long) given left short says =
     let above : 16777216 < length text = some_of (λ bytes. 16777216 < length bytes) input.left text left long in omega (arith, above, short)
 not-refused input (Line line number) text script (words, eleven, (other, read, refused)) given left short says =
@@ -156,12 +161,12 @@ complete_answer input output status.Memory answer text script given left short s
 complete_answer input output status.ReadFault ((words, failed), kept) text script given left short says reads writes = omega (arith, failed, reads)
 complete_answer input output status.WriteFault (failed, front) text script given left short says reads writes = omega (arith, failed, writes)
 
-pub words_answer : (input : Input) (output : Output) (s : Status) → IsAnswer input output s → are_run_words input.words ≡ false → IsWordsAnswer s
-words_answer input output status.Finished (script, accepted, writes) missing = both_words accepted.words missing
-words_answer input output status.Faulted (script, accepted, writes) missing = both_words accepted.words missing
+pub words_answer : (input : Input) (output : Output) (s : Status) → IsAnswer input output s → head_of_words input.words ≡ None → IsWordsAnswer s
+words_answer input output status.Finished (head, script, accepted, writes) missing = some_or_none accepted.words missing
+words_answer input output status.Faulted (head, script, accepted, writes) missing = some_or_none accepted.words missing
 words_answer input output (status.Refused (Words number at)) ((cause, nine, first), line) missing = ap (λ n. Words n at) nine ∙ ap (λ a. Words 9 a) first
-words_answer input output (status.Refused TooLong) ((given, none, long), line) missing = absurd (both_words given missing)
-words_answer input output (status.Refused (Line number refusal)) ((given, eleven, text), line) missing = absurd (both_words given missing)
+words_answer input output (status.Refused TooLong) ((given, none, long), line) missing = absurd (both_words (head_of_words input.words) given missing)
+words_answer input output (status.Refused (Line number refusal)) ((given, eleven, text), line) missing = absurd (both_words (head_of_words input.words) given missing)
 words_answer input output status.Memory answer missing = tt
-words_answer input output status.ReadFault ((given, failed), kept) missing = both_words given missing
+words_answer input output status.ReadFault ((given, failed), kept) missing = both_words (head_of_words input.words) given missing
 words_answer input output status.WriteFault answer missing = tt

@@ -1,12 +1,11 @@
 -- The answers of the program, and their causes.
-use Rattle.std.specs.Prelude.{◌≡◌, ℕ, ◌<◌, ◌≤◌, ◌⊎◌, Bool, true, false, Option, Some, IfSome, Result, Ok, Err, List, [], ◌∷◌, length}
+use Rattle.std.specs.Prelude.{◌≡◌, ℕ, ◌<◌, ◌≤◌, ◌⊎◌, Bool, true, false, Option, Some, None, IfSome, IsSome, Ok, Err, List, [], ◌∷◌, length}
 use Rattle.om_io.specs.Sink.{Appends, AppendsFront}
-use Rattle.om_model.specs.OutputText.{Content, text_of, ended_line}
+use Rattle.om_model.specs.OutputText.{Head, Content, text_of, ended_line}
 use Rattle.omalloc.specs.AcceptedInput.{script_of}
-use Rattle.omalloc.specs.CommandWords.{are_run_words}
+use Rattle.omalloc.specs.CommandWords.{head_of_words}
 use Rattle.omalloc.specs.Headline.{IsHeadline, is_faulted}
 use Rattle.omalloc.specs.Refusals.{refusal_line}
-use Rattle.omalloc.specs.Report.{start_head}
 use Rattle.omalloc.specs.Script.{ScriptText}
 use Rattle.omalloc.specs.declared.refusal.Refusal.{Refusal}
 use Rattle.omalloc.specs.declared.refusal.Refusal.TheVariants.{Words, Line, TooLong}
@@ -37,39 +36,39 @@ pub record IsRead (input : Input) (text : List ℕ) : Type 0 where
   pub none_failed : input.failed_after ≡ input.failed
   pub end : IfSome input.left (λ bytes. input.left_after ≡ Some [])
 
--- the words are accepted, and the text that was read says this script
-pub record IsAccepted (input : Input) (script : ScriptText) : Type 0 where
-  pub words : are_run_words input.words ≡ true
+-- the words are accepted and give this head, and the text that was read says this script
+pub record IsAccepted (input : Input) (head : Head) (script : ScriptText) : Type 0 where
+  pub words : head_of_words input.words ≡ Some head
   pub text : List ℕ
   pub read : IsRead input text
   pub says : script_of text ≡ Ok script
 
 -- why words or a text are refused
 abbrev pub IsCause : Input → Refusal → Type 0
-IsCause input (Words number at) = (are_run_words input.words ≡ false) × (number ≡ 9) × (at ≡ 0)
-IsCause input TooLong = (are_run_words input.words ≡ true) × (input.failed_after ≡ input.failed) × IfSome input.left (λ bytes. 16777216 < length bytes)
+IsCause input (Words number at) = (head_of_words input.words ≡ None) × (number ≡ 9) × (at ≡ 0)
+IsCause input TooLong = IsSome (head_of_words input.words) × (input.failed_after ≡ input.failed) × IfSome input.left (λ bytes. 16777216 < length bytes)
 IsCause input (Line line number) =
-    (are_run_words input.words ≡ true) × (number ≡ 11) × ((text : List ℕ) × IsRead input text × (script_of text ≡ Err line))
+    IsSome (head_of_words input.words) × (number ≡ 11) × ((text : List ℕ) × IsRead input text × (script_of text ≡ Err line))
 
--- a run of the script that was read, over the one listed word 0
-pub record IsRunOf (script : ScriptText) (faulted : Bool) (content : Content) : Type 0 where
-  pub headline : IsHeadline (start_head (0 ∷ [])) (script ∷ []) content
+-- a run of the script under the head
+pub record IsRunOf (head : Head) (script : ScriptText) (faulted : Bool) (content : Content) : Type 0 where
+  pub headline : IsHeadline head (script ∷ []) content
   pub ended : is_faulted content ≡ faulted
 
 -- the whole text of a run was written
-pub record WritesRun (script : ScriptText) (output : Output) (faulted : Bool) : Type 0 where
+pub record WritesRun (head : Head) (script : ScriptText) (output : Output) (faulted : Bool) : Type 0 where
   pub content : Content
-  pub run : IsRunOf script faulted content
+  pub run : IsRunOf head script faulted content
   pub added : Appends output.written output.written_after (text_of content)
 
 -- a front of the text of a run was written, perhaps none of it
-abbrev pub WritesFrontOfRun : ScriptText → Output → Type 0
-WritesFrontOfRun script output =
-    (faulted : Bool) × (content : Content) × IsRunOf script faulted content × AppendsFront output.written output.written_after (text_of content)
+abbrev pub WritesFrontOfRun : Head → ScriptText → Output → Type 0
+WritesFrontOfRun head script output =
+    (faulted : Bool) × (content : Content) × IsRunOf head script faulted content × AppendsFront output.written output.written_after (text_of content)
 
 -- the same, or nothing was written
-abbrev pub WritesRunFront : ScriptText → Output → Type 0
-WritesRunFront script output = (output.written_after ≡ output.written) ⊎ WritesFrontOfRun script output
+abbrev pub WritesRunFront : Head → ScriptText → Output → Type 0
+WritesRunFront head script output = (output.written_after ≡ output.written) ⊎ WritesFrontOfRun head script output
 
 abbrev pub WritesLine : Refusal → Output → Type 0
 WritesLine refusal output = Appends output.written output.written_after (ended_line (refusal_line refusal))
@@ -79,12 +78,12 @@ WritesLineFront refusal output = AppendsFront output.written output.written_afte
 
 -- the input is an accepted script, and it was run and written
 abbrev pub RunsAndWrites : Input → Output → Bool → Type 0
-RunsAndWrites input output faulted = (script : ScriptText) × IsAccepted input script × WritesRun script output faulted
+RunsAndWrites input output faulted = (head : Head) × (script : ScriptText) × IsAccepted input head script × WritesRun head script output faulted
 
 -- a front of what this input allows was written, perhaps none of it
 abbrev pub WritesAllowedFront : Input → Output → Type 0
 WritesAllowedFront input output =
-    ((script : ScriptText) × IsAccepted input script × WritesFrontOfRun script output)
+    ((head : Head) × (script : ScriptText) × IsAccepted input head script × WritesFrontOfRun head script output)
     ⊎ ((refusal : Refusal) × IsCause input refusal × WritesLineFront refusal output)
 
 -- the same, or nothing was written
@@ -93,7 +92,7 @@ WritesFront input output = (output.written_after ≡ output.written) ⊎ WritesA
 
 -- a read failed in the call, for accepted words
 abbrev pub IsReadFault : Input → Type 0
-IsReadFault input = (are_run_words input.words ≡ true) × (input.failed < input.failed_after)
+IsReadFault input = IsSome (head_of_words input.words) × (input.failed < input.failed_after)
 
 -- each answer with its cause; that of want of memory isn't told
 abbrev pub IsAnswer : Input → Output → Status → Type 0
@@ -114,13 +113,13 @@ IsStop input status.Faulted = ⊥
 IsStop input status.WriteFault = ⊥
 
 -- the answers once the script is there
-abbrev pub IsRunAnswer : ScriptText → Output → Status → Type 0
-IsRunAnswer script output status.Finished = WritesRun script output false
-IsRunAnswer script output status.Faulted = WritesRun script output true
-IsRunAnswer script output (status.Refused refusal) = ⊥
-IsRunAnswer script output status.Memory = WritesRunFront script output
-IsRunAnswer script output status.ReadFault = ⊥
-IsRunAnswer script output status.WriteFault = (output.failed < output.failed_after) × WritesFrontOfRun script output
+abbrev pub IsRunAnswer : Head → ScriptText → Output → Status → Type 0
+IsRunAnswer head script output status.Finished = WritesRun head script output false
+IsRunAnswer head script output status.Faulted = WritesRun head script output true
+IsRunAnswer head script output (status.Refused refusal) = ⊥
+IsRunAnswer head script output status.Memory = WritesRunFront head script output
+IsRunAnswer head script output status.ReadFault = ⊥
+IsRunAnswer head script output status.WriteFault = (output.failed < output.failed_after) × WritesFrontOfRun head script output
 
 -- the answers once the input is refused
 abbrev pub IsRefusalAnswer : Refusal → Output → Status → Type 0
@@ -143,7 +142,7 @@ IsRunOrMemory status.WriteFault = ⊥
 -- an accepted script that the source tells is run, or memory is short, where no read or write fails
 abbrev pub IsComplete : Input → Output → Status → Type 0
 IsComplete input output answer =
-    (text : List ℕ) (script : ScriptText) → are_run_words input.words ≡ true → input.left ≡ Some text → length text ≤ 16777216 → script_of text ≡ Ok script
+    (text : List ℕ) (script : ScriptText) → IsSome (head_of_words input.words) → input.left ≡ Some text → length text ≤ 16777216 → script_of text ≡ Ok script
     → input.failed_after ≡ input.failed → output.failed_after ≡ output.failed → IsRunOrMemory answer
 
 -- the answers to refused words

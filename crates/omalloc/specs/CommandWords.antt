@@ -1,7 +1,72 @@
--- The accepted command words.
-use Rattle.std.specs.Prelude.{ℕ, Bool, false, ◌&&◌, List, [], ◌∷◌, codes, bytes_eq}
+-- The command words: `run`, then perhaps `-o LETTERS`, then perhaps `-s SEED` or `-w LIST`. LETTERS is any
+-- text that doesn't begin with `-`. SEED is a number up to 2^64 - 1, and LIST is one or more numbers up to
+-- 2^32 - 1 with single commas between them; a number is 1 to 20 decimal digits. Without letters the options
+-- are those of the start, and without a seed or a list the seed is 0. Letters that leave an option on which
+-- isn't built yet are refused.
+use Rattle.std.specs.Prelude.{ℕ, Bool, false, not, ◌&&◌, ◌||◌, ◌==◌, nat_le, List, [], ◌∷◌, length, slice_get, codes, bytes_eq, Option, Some, None, if◌then◌else◌}
+use Rattle.std.specs.List.{slice_split, list_all}
+use Rattle.std.specs.Option.{option_map, option_map_or, option_and_then}
+use Rattle.om_opts.specs.Letters.{opt_of, warned_of}
+use Rattle.om_opts.specs.declared.options.Opts.{Opts}
+use Rattle.om_words.specs.declared.plan.WordPlan.{WordPlan}
+use Rattle.om_words.specs.declared.plan.WordPlan.TheVariants.{Listed, Seeded}
+use Rattle.om_model.specs.OutputText.{Head}
+use Rattle.omalloc.specs.AcceptedInput.{is_digit, number_of}
 
--- the words are exactly `run`, `-w` and `0`
-abbrev pub are_run_words : List (List ℕ) → Bool
-are_run_words (command ∷ option ∷ list ∷ []) = bytes_eq command (codes "run") && bytes_eq option (codes "-w") && bytes_eq list (codes "0")
-are_run_words other = false
+-- what the words of a run say
+pub record RunWords : Type 0 where
+  pub letters : List ℕ
+  pub plan : WordPlan
+
+-- 1 to 20 digits that stand for a number up to the greatest
+abbrev pub number_to : ℕ → List ℕ → Option ℕ
+number_to greatest word =
+    if nat_le 1 (length word) && nat_le (length word) 20 && list_all is_digit word && nat_le (number_of word) greatest then Some (number_of word) else None
+
+-- the numbers of a list, where each of its parts is one
+abbrev pub numbers_of : List (List ℕ) → Option (List ℕ)
+numbers_of [] = Some []
+numbers_of (part ∷ parts) = option_and_then (λ number. option_map (λ numbers. number ∷ numbers) (numbers_of parts)) (number_to 4294967295 part)
+
+-- the plan that an option and its value say
+abbrev pub plan_of : List ℕ → List ℕ → Option WordPlan
+plan_of option value =
+    if bytes_eq option (codes "-s") then option_map Seeded (number_to 18446744073709551615 value)
+    else if bytes_eq option (codes "-w") then option_map Listed (numbers_of (slice_split (λ b. b == 44) value))
+    else None
+
+-- the plan that the last words say
+abbrev pub plan_from : List (List ℕ) → Option WordPlan
+plan_from [] = Some (Seeded 0)
+plan_from (option ∷ value ∷ []) = plan_of option value
+plan_from other = None
+
+abbrev pub with_letters : List ℕ → List (List ℕ) → Option RunWords
+with_letters letters words = option_map (λ plan. record { letters = letters; plan = plan }) (plan_from words)
+
+-- the value of an option doesn't begin with `-`
+abbrev pub is_value : List ℕ → Bool
+is_value word = not (option_map_or (λ b. b == 45) (slice_get word 0) false)
+
+-- what the words after `run` say
+abbrev pub options_from : List (List ℕ) → Option RunWords
+options_from (option ∷ value ∷ words) =
+    if bytes_eq option (codes "-o") then (if is_value value then with_letters value words else None)
+    else with_letters [] (option ∷ value ∷ words)
+options_from words = with_letters [] words
+
+abbrev pub run_words_of : List (List ℕ) → Option RunWords
+run_words_of [] = None
+run_words_of (command ∷ words) = if bytes_eq command (codes "run") then options_from words else None
+
+-- what these options ask for is built
+abbrev pub is_built : Opts → Bool
+is_built o = not (o.canary || o.freecheck || o.guard || o.unmap || o.always_move || o.xmalloc || o.dump)
+
+-- the head of a run by such words: one pool is kept, in an arena of 64 zones
+abbrev pub head_of : RunWords → Head
+head_of run = record { options = record (opt_of run.letters) { pools = 1 }; zones = 64; plan = run.plan; warned = warned_of run.letters }
+
+-- the head of the run that the words ask for; none where they are refused
+abbrev pub head_of_words : List (List ℕ) → Option Head
+head_of_words words = option_and_then (λ run. if is_built (opt_of run.letters) then Some (head_of run) else None) (run_words_of words)

@@ -3,7 +3,7 @@
 -- order, with the outcomes that its transcript tells; and nobody else's calls stand there. The head and the
 -- names are the given ones, the board is empty, each look at a zone that was passed over is true, and at each
 -- place of a journal the blocks and the delayed places lie on held pages and share no byte.
-use Rattle.std.specs.Prelude.{◌≡◌, ℕ, ◌<◌, Bool, Option, Some, List, [], ◌++◌, length, map, slice_get, slice_index_or}
+use Rattle.std.specs.Prelude.{◌≡◌, ℕ, ◌<◌, Bool, Some, List, [], ◌++◌, length, map, slice_get, slice_index_or}
 use Rattle.std.specs.List.{AllByRecursion, list_any}
 use Rattle.om_model.specs.LawfulJournal.{IsLawful, state_of}
 use Rattle.om_model.specs.WellFormed.{IsWellFormed}

@@ -2,6 +2,7 @@ pub mod AcceptedInput
 pub mod Answers
 pub mod CommandWords
 pub mod Headline
+pub mod Heads
 pub mod Refusals
 pub mod Report
 pub mod Run

@@ -2,30 +2,25 @@
 use Rattle.std.specs.Prelude.{◌≡◌, ℕ, ◌+◌, ◌≤◌, Option, List, [], ◌∷◌, ◌++◌, length, codes}
 use Rattle.std.specs.List.{flat_map}
 use Rattle.std.specs.Option.{option_map}
-use Rattle.om_model.specs.Rules.{start_options}
-use Rattle.om_model.specs.OutputText.{Head, Told, Content, head_lines, pool_lines, board_lines, script_lines, entry_text, outcome_line, ended_line}
+use Rattle.om_model.specs.OutputText.{Head, Told, Content, head_lines, pool_lines, board_lines, script_lines, warning_line, entry_text, outcome_line, ended_line}
 use Rattle.om_model.specs.declared.entry.Entry.{Entry}
 use Rattle.om_model.specs.declared.reply.Outcome.{Outcome}
-
--- 64 zones, one pool, and no letters
-abbrev pub start_head : List ℕ → Head
-start_head words = record { options = record start_options { pools = 1 }; zones = 64; words = words; warned = [] }
 
 abbrev pub told : List ℕ → List Outcome → Told
 told name outcomes = record { name = name; outcomes = outcomes }
 
 -- a run of one script on one pool, with nothing on the board
-abbrev pub content : List ℕ → List Entry → List ℕ → List Outcome → Content
-content words entries name outcomes = record {
-  head = start_head words;
+abbrev pub content : Head → List Entry → List ℕ → List Outcome → Content
+content head entries name outcomes = record {
+  head = head;
   journals = entries ∷ [];
   board = [];
   transcripts = told name outcomes ∷ [];
 }
 
 -- the text of the head and the pool
-abbrev pub front_of : List ℕ → List Entry → List ℕ
-front_of words entries = flat_map ended_line (head_lines (start_head words) ++ pool_lines (start_head words) (0, entries))
+abbrev pub front_of : Head → List Entry → List ℕ
+front_of head entries = flat_map ended_line (head_lines head ++ pool_lines head (0, entries))
 
 -- the text of the empty board, the script and the last line
 abbrev pub back_of : List ℕ → List Outcome → List ℕ
@@ -33,6 +28,9 @@ back_of name outcomes = flat_map ended_line (board_lines [] ++ script_lines (0, 
 
 abbrev pub entry_line : Entry → List ℕ
 entry_line entry = ended_line (entry_text entry)
+
+abbrev pub warned_line : ℕ → List ℕ
+warned_line byte = ended_line (warning_line byte)
 
 abbrev pub numbered_line : ℕ × Outcome → List ℕ
 numbered_line numbered = ended_line (outcome_line numbered)

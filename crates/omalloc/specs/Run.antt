@@ -10,7 +10,8 @@ use Rattle.om_model.specs.declared.entry.Entry.{Entry}
 use Rattle.om_model.specs.declared.entry.Entry.TheVariants.{Call}
 use Rattle.om_model.specs.ScriptRun.{op_of, outcome_of, assigned, is_fault}
 use Rattle.om_model.specs.ScriptCalls.{IsScriptRun, OnlyCallers}
-use Rattle.om_pool.specs.PoolView.{PoolView, lone_rules}
+use Rattle.om_model.specs.OutputText.{Head, rules_of}
+use Rattle.om_pool.specs.PoolView.{PoolView}
 use Rattle.omalloc.specs.Script.{ScriptText}
 
 -- the command with this number of the only caller, who asks the only pool
@@ -35,8 +36,8 @@ pub record IsCommandRun (number : ℕ) (c : Command) (before after : List ℕ) (
   pub done : IsDone number (op_of before c) old new o
   pub values : is_fault o ≡ false → after ≡ assigned before c o
 
--- the script ran on a pool of its own, over the one listed word 0
-pub record RanAlone (script : ScriptText) (pool : PoolView) (outcomes : List Outcome) : Type 0 where
-  pub rules : pool.rules ≡ lone_rules (0 ∷ [])
+-- the script ran on a pool of its own, by the rules of the head
+pub record RanAlone (head : Head) (script : ScriptText) (pool : PoolView) (outcomes : List Outcome) : Type 0 where
+  pub rules : pool.rules ≡ rules_of head 0
   pub script_run : IsScriptRun 1 0 (length script.names) script.commands (pool.journal.items ∷ []) outcomes
   pub only : OnlyCallers 1 1 pool.journal.items

@@ -1,26 +1,28 @@
 //! The call that is the program: words, source and sink are given, and the answer is a status.
-ghost use Rattle.std.specs.Prelude.{◌≡◌, ℕ, ◌<◌, ◌≤◌, true, false, map, string_bytes, IfOk, IfErr, IsErrOf, OnErr};
-ghost use Rattle.omalloc.specs.Answers.{Input, Output, IsAccepted, IsAnswer, IsStop, IsRunAnswer, IsRefusalAnswer, IsComplete, IsWordsAnswer};
-ghost use Rattle.omalloc.specs.CommandWords.{are_run_words};
-ghost use Rattle.omalloc.specs.Run.{RanAlone};
+ghost use Rattle.std.specs.Prelude.{◌≡◌, ◌<◌, ◌≤◌, None, map, string_bytes, IfOk, IfErr};
+ghost use Rattle.omalloc.specs.Answers.{IsAccepted, IsAnswer, IsStop, IsRunAnswer, IsRefusalAnswer, IsComplete, IsWordsAnswer};
+ghost use Rattle.omalloc.specs.CommandWords.{head_of_words};
+ghost use Rattle.omalloc.specs.Heads.{IsHead};
 ghost use Rattle.omalloc.specs.Script.{IsScript};
 
 use crate::gate::Gate;
+use crate::head::Head;
 use crate::read::{TextStop, read};
 use crate::refusal::Refusal;
 use crate::report::{write_line, write_output};
 use crate::run::run_script;
 use crate::script::Script;
 use crate::status::Status;
-use crate::words::are_run_words;
+use crate::words::{WordsStop, read_words};
 use om_io::{ReadStop, Sink, Source, WriteStop, read_all};
 use std::alloc::Global;
 use std::sync::Wait;
 use std::thread::Threads;
 
-/// The script of an accepted input.
+/// The head and the script of an accepted input.
 #[derive(Drop)]
 pub struct Prepared {
+    head: Head,
     script: Script,
 }
 
@@ -31,14 +33,18 @@ pub fn prepare<S: Source>(
     words: &[String],
     source: &mut S,
 ) -> Result<Prepared, Status>
-    ensures accepted { IfOk result (λ prepared. IsAccepted (record { words = map string_bytes words.now; left = S.left source.old; left_after = S.left source.new; failed = S.faults source.old; failed_after = S.faults source.new }) prepared.script) }
-    ensures form { IfOk result (λ prepared. IsScript prepared.script) }
+    ensures accepted { IfOk result (λ prepared. IsAccepted (record { words = map string_bytes words.now; left = S.left source.old; left_after = S.left source.new; failed = S.faults source.old; failed_after = S.faults source.new }) prepared.head prepared.script) }
+    ensures form { IfOk result (λ prepared. IsHead prepared.head × IsScript prepared.script) }
     ensures stopped { IfErr result (IsStop (record { words = map string_bytes words.now; left = S.left source.old; left_after = S.left source.new; failed = S.faults source.old; failed_after = S.faults source.new })) }
     ensures counted { S.faults source.old ≤ S.faults source.new }
 {
-    if !are_run_words(words) {
-        return Err(Status::Refused(Refusal::Words { number: 9, at: 0 }));
-    }
+    let head = match read_words(alloc, words) {
+        Ok(head) => head,
+        Err(WordsStop::NotBuilt) => {
+            return Err(Status::Refused(Refusal::Words { number: 9, at: 0 }));
+        }
+        Err(WordsStop::Memory) => return Err(Status::Memory),
+    };
     let text = match read_all(alloc, source) {
         Ok(text) => text,
         Err(ReadStop::ReadFault) => return Err(Status::ReadFault),
@@ -46,7 +52,7 @@ pub fn prepare<S: Source>(
         Err(ReadStop::Memory) => return Err(Status::Memory),
     };
     match read(alloc, text.as_slice()) {
-        Ok(script) => Ok(Prepared { script }),
+        Ok(script) => Ok(Prepared { head, script }),
         Err(TextStop::Refused { line }) => {
             Err(Status::Refused(Refusal::Line { line, number: 11 }))
         }
@@ -55,16 +61,22 @@ pub fn prepare<S: Source>(
 }
 
 // Runs the script and writes the run.
-fn write_run<R: Wait, K: Sink>(rt: &R, alloc: Global, script: &Script, sink: &mut K) -> Status
-    requires { IsScript script.now }
-    ensures answer { IsRunAnswer script.now (record { written = K.written sink.old; written_after = K.written sink.new; failed = K.faults sink.old; failed_after = K.faults sink.new }) result }
+fn write_run<R: Wait, K: Sink>(
+    rt: &R,
+    alloc: Global,
+    head: &Head,
+    script: &Script,
+    sink: &mut K,
+) -> Status
+    requires head { IsHead head.now }
+    requires script { IsScript script.now }
+    ensures answer { IsRunAnswer head.now script.now (record { written = K.written sink.old; written_after = K.written sink.new; failed = K.faults sink.old; failed_after = K.faults sink.new }) result }
     ensures counted { K.faults sink.old ≤ K.faults sink.new }
 {
-    let Ok(run) = run_script(rt, alloc, script) else {
+    let Ok(run) = run_script(rt, alloc, head, script) else {
         return Status::Memory;
     };
-    let journal = run.pool.journal();
-    match write_output(alloc, sink, &[0], journal, script.name(), &run.transcript) {
+    match write_output(alloc, sink, head, &run.pool, script.name(), &run.transcript) {
         Ok(()) if run.faulted => Status::Faulted,
         Ok(()) => Status::Finished,
         Err(WriteStop::Failed) => Status::WriteFault,
@@ -97,7 +109,7 @@ fn answer<R: Wait, S: Source, K: Sink>(
     ensures write_faults { K.faults sink.old ≤ K.faults sink.new }
 {
     match prepare(alloc, words, source) {
-        Ok(prepared) => write_run(rt, alloc, &prepared.script, sink),
+        Ok(prepared) => write_run(rt, alloc, &prepared.head, &prepared.script, sink),
         Err(Status::Refused(refusal)) => write_refusal(alloc, refusal, sink),
         Err(Status::ReadFault) => Status::ReadFault,
         Err(_) => Status::Memory,
@@ -106,7 +118,8 @@ fn answer<R: Wait, S: Source, K: Sink>(
 
 #[tactic(auto, using(crate::proofs::TopLaws::complete_answer, crate::proofs::TopLaws::words_answer))]
 /// The program: runs the script that the source gives, and writes what came of it, where the words are
-/// `run`, `-w` and `0`. The gate isn't called yet.
+/// `run`, then perhaps `-o` and option letters, then perhaps `-s` and a seed or `-w` and a list of words.
+/// The gate isn't called yet.
 pub fn omalloc<R: Threads + Wait + Sync, S: Source, K: Sink, G: Gate>(
     rt: &R,
     alloc: Global,
@@ -117,7 +130,7 @@ pub fn omalloc<R: Threads + Wait + Sync, S: Source, K: Sink, G: Gate>(
 ) -> Status
     ensures answer { IsAnswer (record { words = map string_bytes words.now; left = S.left source.old; left_after = S.left source.new; failed = S.faults source.old; failed_after = S.faults source.new }) (record { written = K.written sink.old; written_after = K.written sink.new; failed = K.faults sink.old; failed_after = K.faults sink.new }) result }
     ensures complete { IsComplete (record { words = map string_bytes words.now; left = S.left source.old; left_after = S.left source.new; failed = S.faults source.old; failed_after = S.faults source.new }) (record { written = K.written sink.old; written_after = K.written sink.new; failed = K.faults sink.old; failed_after = K.faults sink.new }) result }
-    ensures words { are_run_words (map string_bytes words.now) ≡ false → IsWordsAnswer result }
+    ensures words { head_of_words (map string_bytes words.now) ≡ None → IsWordsAnswer result }
     ensures read_faults { S.faults source.old ≤ S.faults source.new }
     ensures write_faults { K.faults sink.old ≤ K.faults sink.new }
 {

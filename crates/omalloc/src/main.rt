@@ -1,8 +1,10 @@
 //! The program: the command words, the top call and what it is made of.
 #![tactic(auto)]
 
+mod bytes;
 mod call;
 mod gate;
+mod head;
 mod read;
 mod refusal;
 mod report;

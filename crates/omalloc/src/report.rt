@@ -1,17 +1,19 @@
 //! The output of a run. Lines wait in a buffer until they are many, so that memory doesn't grow with
 //! the output.
-ghost use Rattle.std.specs.Prelude.{◌≡◌, ◌<◌, ◌≤◌, [], ◌++◌, length, IsErrOf, OnErr, OnOk};
+ghost use Rattle.std.specs.Prelude.{◌≡◌, ◌<◌, ◌≤◌, [], ◌++◌, IsErrOf, OnErr, OnOk};
 ghost use Rattle.std.specs.List.{flat_map, enumerate_from, position};
 ghost use Rattle.om_io.specs.Sink.{Appends, AppendsFront};
 ghost use Rattle.om_model.specs.ScriptRun.{is_fault};
-ghost use Rattle.om_model.specs.OutputText.{ended_line, text_of};
+ghost use Rattle.om_model.specs.OutputText.{ended_line, rules_of, text_of};
 ghost use Rattle.omalloc.specs.Refusals.{refusal_line};
 ghost use Rattle.omalloc.specs.Report.{content, entry_line, numbered_line, front_of, back_of, Adds};
 
+use crate::head::Head;
 use crate::refusal::Refusal;
 use crate::text;
 use om_io::{Sink, WriteStop, write_all};
 use om_model::{Entry, Journal, Outcome, Transcript};
+use om_pool::Pool;
 use std::alloc::Global;
 
 // A longer buffer is given to the sink.
@@ -113,19 +115,20 @@ fn first_fault(transcript: &Transcript) -> Option<u32>
 fn write_front<K: Sink>(
     sink: &mut K,
     buffer: &mut Vec<u8>,
-    words: &[u32],
-    journal: &Journal,
+    head: &Head,
+    pool: &Pool,
 ) -> Result<(), WriteStop>
-    requires { 0 < length words.now }
+    requires { pool.now.rules ≡ rules_of head.now 0 }
     ensures added { OnOk result (Adds (K.written sink.old) (K.written sink.new)
-        buffer.old.items buffer.new.items (front_of words.now journal.now.items)) }
+        buffer.old.items buffer.new.items (front_of head.now pool.now.journal.items)) }
     ensures front { OnErr result (AppendsFront (K.written sink.old) (K.written sink.new)
-        (buffer.old.items ++ front_of words.now journal.now.items)) }
+        (buffer.old.items ++ front_of head.now pool.now.journal.items)) }
     ensures cause { IsErrOf result WriteStop.Failed → K.faults sink.old < K.faults sink.new }
     ensures counted { K.faults sink.old ≤ K.faults sink.new }
 {
-    text::push_head(buffer, words)?;
-    text::push_pool_title(buffer, words, journal.len())?;
+    let journal = pool.journal();
+    text::push_head(buffer, head)?;
+    text::push_pool_title(buffer, pool.canary(), journal.len())?;
     write_entries(sink, buffer, journal)
 }
 
@@ -149,25 +152,25 @@ fn write_back<K: Sink>(
     Ok(())
 }
 
-/// Writes the whole output of a pool with this journal and a script with this transcript.
+/// Writes the whole output of the one pool under a head and a script with this transcript.
 pub(crate) fn write_output<K: Sink>(
     alloc: Global,
     sink: &mut K,
-    words: &[u32],
-    journal: &Journal,
+    head: &Head,
+    pool: &Pool,
     name: &[u8],
     transcript: &Transcript,
 ) -> Result<(), WriteStop>
-    requires { 0 < length words.now }
+    requires { pool.now.rules ≡ rules_of head.now 0 }
     ensures added { OnOk result (Appends (K.written sink.old) (K.written sink.new)
-        (text_of (content words.now journal.now.items name.now transcript.now))) }
+        (text_of (content head.now pool.now.journal.items name.now transcript.now))) }
     ensures front { OnErr result (AppendsFront (K.written sink.old) (K.written sink.new)
-        (text_of (content words.now journal.now.items name.now transcript.now))) }
+        (text_of (content head.now pool.now.journal.items name.now transcript.now))) }
     ensures cause { IsErrOf result WriteStop.Failed → K.faults sink.old < K.faults sink.new }
     ensures counted { K.faults sink.old ≤ K.faults sink.new }
 {
     let mut buffer = Vec::new(alloc);
-    write_front(sink, &mut buffer, words, journal)?;
+    write_front(sink, &mut buffer, head, pool)?;
     write_back(sink, &mut buffer, name, transcript)?;
     write_all(sink, buffer.as_slice())
 }
@@ -193,8 +196,10 @@ pub(crate) fn write_line<K: Sink>(
 #[cfg(test)]
 mod tests {
     use super::*;
+    use crate::read::read;
+    use crate::run::run_script;
+    use crate::words::read_words;
     use om_io::MemSink;
-    use om_model::{CallEntry, Drawn, LookList, Move, Op, Reply, Who};
     use std::test::Fail;
 
     const TEXT: &[u8] = b"omalloc 1
@@ -211,54 +216,24 @@ finished
 done
 ";
 
-    fn call(alloc: Global, command: u32, op: Op, reply: Reply, words: Drawn) -> CallEntry {
-        CallEntry {
-            who: Who {
-                caller: 0,
-                command,
-                hop: 0,
-            },
-            op,
-            reply,
-            words,
-            looks: LookList::empty(alloc),
-            taken: None,
-            claim: None,
-            release: None,
-        }
-    }
-
     #[test]
     fn a_block_and_its_free(rt: HostRuntime) -> Result<(), Fail> {
-        let mut journal = Journal::new(rt.alloc());
-        let mut words = Drawn::empty();
-        words.push(0);
-        words.push(0);
-        let mut made = call(
-            rt.alloc(),
-            1,
-            Op::Malloc { size: 100, site: 0 },
-            Reply::Block(0x10000),
-            words,
-        );
-        made.claim = Some(Move {
-            zone: 0,
-            version: 1,
-            first: 0,
-            count: 1,
-        });
-        journal.reserve()?;
-        journal.push(Entry::Call(made));
-        let mut word = Drawn::empty();
-        word.push(0);
-        let freed = call(rt.alloc(), 2, Op::Free { addr: 0x10000 }, Reply::Done, word);
-        journal.reserve()?;
-        journal.push(Entry::Call(freed));
-        let mut transcript = Transcript::new(rt.alloc());
-        transcript.push(Outcome::Block(0x10000))?;
-        transcript.push(Outcome::Done)?;
+        let mut words = Vec::new(rt.alloc());
+        for word in ["run", "-w", "0"] {
+            words.push(String::from_str(rt.alloc(), word)?)?;
+        }
+        let head = read_words(rt.alloc(), &words)?;
+        let script = read(rt.alloc(), b"script a\nmalloc x 100\nfree x\nend\n")?;
+        let run = run_script(&rt, rt.alloc(), &head, &script)?;
         let mut sink = MemSink::new(rt.alloc(), 7, Vec::new(rt.alloc()));
-        write_output(rt.alloc(), &mut sink, &[0], &journal, b"a", &transcript)?;
+        write_output(
+            rt.alloc(),
+            &mut sink,
+            &head,
+            &run.pool,
+            script.name(),
+            &run.transcript,
+        )?;
         assert_eq!(rt; sink.bytes(), TEXT);
         Ok(())
     }

@@ -1,11 +1,13 @@
 //! A script on a pool of its own.
-ghost use Rattle.std.specs.Prelude.{◌≡◌, ℕ, ◌+◌, ◌-◌, ◌^◌, ◌<◌, ◌≤◌, length, vec_len, IfOk, true};
+ghost use Rattle.std.specs.Prelude.{◌≡◌, ℕ, ◌+◌, ◌-◌, ◌^◌, ◌<◌, ◌≤◌, length, vec_len, IfOk, true, false};
 ghost use Rattle.std.specs.List.{list_any};
 ghost use Rattle.om_model.specs.ScriptRun.{outcome_of, is_fault, given};
-ghost use Rattle.om_pool.specs.PoolView.{PoolView};
+ghost use Rattle.om_pool.specs.PoolView.{IsRun};
+ghost use Rattle.omalloc.specs.Heads.{IsHead};
 ghost use Rattle.omalloc.specs.Run.{IsCommandRun, RanAlone};
 ghost use Rattle.omalloc.specs.Script.{IsScript, IsCommand};
 
+use crate::head::Head;
 use crate::script::Script;
 use om_geom::Addr;
 use om_model::{Command, Fault, Op, Outcome, Reply, Transcript, Who};
@@ -61,7 +63,9 @@ fn run_command<R: Wait>(
 ) -> Result<Outcome, AllocError>
     requires short { length pool.old.journal.items < 2 ^ 32 - 1 }
     requires form { IsCommand (vec_len values.old) command }
+    requires plain { pool.old.rules.options.canary ≡ false }
     ensures ran { IfOk result (λ outcome. IsCommandRun number command values.old.items values.new.items pool.old.journal.items pool.new.journal.items outcome) }
+    ensures run { IsRun pool.old → IsRun pool.new }
     ensures rules { pool.new.rules ≡ pool.old.rules }
     ensures entries { length pool.new.journal.items ≤ length pool.old.journal.items + 1 }
     ensures variables { vec_len values.new ≡ vec_len values.old }
@@ -89,13 +93,21 @@ fn run_command<R: Wait>(
     }
 }
 
-/// Runs the script on a new pool, over the one listed word 0.
-pub fn run_script<R: Wait>(rt: &R, alloc: Global, script: &Script) -> Result<Run, AllocError>
-    requires { IsScript script.now }
-    ensures ran { IfOk result (λ run. RanAlone script.now run.pool run.transcript) }
+/// Runs the script on a new pool, by the options and the words of the head.
+pub fn run_script<R: Wait>(
+    rt: &R,
+    alloc: Global,
+    head: &Head,
+    script: &Script,
+) -> Result<Run, AllocError>
+    requires head { IsHead head.now }
+    requires script { IsScript script.now }
+    ensures ran { IfOk result (λ run. RanAlone head.now script.now run.pool run.transcript) }
+    ensures run { IfOk result (λ run. IsRun run.pool) }
     ensures faulted { IfOk result (λ run. run.faulted ≡ list_any is_fault run.transcript) }
 {
-    let mut pool = Pool::start(alloc, vec![in alloc; 0]?)?;
+    let words = head.plan.words(alloc, 0)?;
+    let mut pool = Pool::start(alloc, head.opts, words)?;
     let mut values = vec![in alloc; 0u64; script.variables()]?;
     let mut transcript = Transcript::new(alloc);
     for (i, command) in script.commands().iter().enumerate() {

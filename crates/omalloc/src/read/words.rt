@@ -1,18 +1,12 @@
 //! Lines and words: slices of the text, cut and judged one by one.
 
-ghost use Rattle.std.specs.Prelude.{◌≡◌, ◌<◌, ◌==◌, [], ◌∷◌, length, min, IfSome, MatchOption, IsTrue};
-ghost use Rattle.std.specs.List.{list_all, position};
+ghost use Rattle.std.specs.Prelude.{◌≡◌, ◌<◌, [], ◌∷◌, length, IfSome, MatchOption};
+ghost use Rattle.std.specs.List.{list_all};
 ghost use Rattle.std.specs.Option.{option_map, option_copied};
-ghost use Rattle.omalloc.specs.AcceptedInput.{text_lines, words_of, is_digit, is_letter, is_name_byte, is_name, number_of, size_of, title_of, request_of};
+ghost use Rattle.omalloc.specs.AcceptedInput.{text_lines, words_of, is_letter, is_name_byte, is_name, size_of, title_of, request_of};
 
+use crate::bytes::{are_digits, capped_number, cut_at, first_place, is_digit};
 use crate::script::Request;
-
-/// The place of the first such byte.
-fn first_place(text: &[u8], byte: u8) -> Option<usize>
-    ensures { result ≡ position (λ b. b == byte) text.now }
-{
-    text.iter().position(|b| *b == byte)
-}
 
 /// The first line and the text after it; none where nothing is left.
 #[tactic(auto, using(crate::proofs::TextCuts::line_found, crate::proofs::TextCuts::line_whole))]
@@ -30,20 +24,10 @@ pub fn next_line(text: &[u8]) -> Option<(&[u8], &[u8])>
 }
 
 /// The first word, and what follows the space after it.
-#[tactic(auto, using(crate::proofs::TextCuts::word_found, crate::proofs::TextCuts::word_whole))]
 fn cut_word(line: &[u8]) -> (&[u8], Option<&[u8]>)
     ensures { MatchOption result.1 (words_of line.now ≡ result.0.now ∷ []) (λ rest. words_of line.now ≡ result.0.now ∷ words_of rest.now) }
 {
-    match first_place(line, b' ') {
-        None => (line, None),
-        Some(i) => (&line[..i], Some(&line[i + 1..])),
-    }
-}
-
-fn is_digit(b: u8) -> bool
-    ensures { result ≡ is_digit b }
-{
-    b.is_ascii_digit()
+    cut_at(line, b' ')
 }
 
 fn is_letter(b: u8) -> bool
@@ -73,33 +57,15 @@ fn is_name(word: &[u8]) -> bool
     }
 }
 
-/// The number that the digits stand for, and 2049 for each greater one.
-fn capped_number(digits: &[u8]) -> u64
-    requires { IsTrue (list_all is_digit digits.now) }
-    ensures { result ≡ min (number_of digits.now) 2049 }
-{
-    let mut number = 0;
-    for b in digits {
-        number = (10 * number + (*b as u64 - 48)).min(2049);
-    }
-    number
-}
-
-fn are_digits(word: &[u8]) -> bool
-    ensures { result ≡ list_all is_digit word.now }
-{
-    word.iter().all(|b| is_digit(*b))
-}
-
 fn size_of(word: &[u8]) -> Option<u64>
     ensures { result ≡ size_of word.now }
 {
     if !are_digits(word) {
         return None;
     }
-    let size = capped_number(word);
+    let size = capped_number(word, 2049);
     if 1 <= size && size <= 2048 {
-        Some(size)
+        Some(size as u64)
     } else {
         None
     }

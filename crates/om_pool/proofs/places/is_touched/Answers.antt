@@ -5,10 +5,10 @@ use Rattle.om_pool.proofs.places.is_touched.Goals as goal
 
 pub returns-then-some_block_touches : goal.returns-then-some_block_touches
 returns-then-some_block_touches c =
-    let e = list_any-places (touches c.args.page) c.args.live.now c.args.slots.now in
+    let e = list_any-places c.args.canary (touches c.args.page) c.args.live.now c.args.slots.now in
     grind arith
 
 pub returns-else-some_block_touches : goal.returns-else-some_block_touches
 returns-else-some_block_touches c =
-    let e = list_any-places (touches c.args.page) c.args.live.now c.args.slots.now in
+    let e = list_any-places c.args.canary (touches c.args.page) c.args.live.now c.args.slots.now in
     grind arith

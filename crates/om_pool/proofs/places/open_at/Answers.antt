@@ -1,4 +1,4 @@
-use Rattle.std.proofs.Common.{◌∙◌, sym, false, arith, slice_index_or, drop, ◌+◌}
+use Rattle.std.proofs.Common.{◌∙◌, sym, arith, slice_index_or, drop, ◌+◌}
 use Rattle.std.specs.List.{slice_get}
 use Rattle.std.proofs.lemmas.List.{at_drop_more}
 use Rattle.om_model.specs.PoolState.{places_in}
@@ -9,7 +9,7 @@ use Rattle.om_pool.proofs.places.open_at.Goals.{then-is_open+else-before-eq0, el
 
 pub loop-page-preserved : goal.loop-page-preserved
 loop-page-preserved c =
-    let used = places_in false c.args.live.now c.args.slots.now in
+    let used = places_in c.args.canary c.args.live.now c.args.slots.now in
     let test = is_open_page used c.args.class in
     let here = slice_index_or c.args.held.now c.loop-page.page-index 0 in
     let rest = drop (c.loop-page.page-index + 1) c.args.held.now in

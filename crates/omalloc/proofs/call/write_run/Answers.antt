@@ -1,25 +1,24 @@
-use Rattle.std.proofs.Common.{true, false, ap, rules, inr}
-use Rattle.om_model.specs.Entries.{Entries}
+use Rattle.std.proofs.Common.{true, false, rules, inr}
 use Rattle.omalloc.specs.Answers.{Output}
 use Rattle.omalloc.proofs.TopLaws.{WritesRun-told, WritesFrontOfRun-told}
 use Rattle.omalloc.proofs.call.write_run.Goals as goal
 
 pub returns-in-Ok-write_output-clause-answer : goal.returns-in-Ok-write_output-clause-answer
 returns-in-Ok-write_output-clause-answer g c =
-    WritesRun-told c.args.script.now _ c.in-Ok.run'.pool c.in-Ok.run'.transcript c.in-Ok.run'.faulted true c.journal-journal.result.now.items c.name.result.now c.in-Ok.ensures.ran c.journal-journal.ensures.run c.in-Ok.ensures.faulted c.if-run.true (ap (λ (j : Entries). j.items) c.journal-journal.ensures.journal) c.name.ensures c.in-Ok-write_output.ensures.added
+    WritesRun-told c.args.head.now c.args.script.now _ c.in-Ok.run'.pool c.in-Ok.run'.transcript c.in-Ok.run'.faulted true c.name.result.now c.requires.head c.in-Ok.ensures.ran c.in-Ok.ensures.run c.in-Ok.ensures.faulted c.if-run.true c.name.ensures c.in-Ok-write_output.ensures.added
 
 pub returns-in-Ok-2-clause-answer : goal.returns-in-Ok-2-clause-answer
 returns-in-Ok-2-clause-answer g c =
-    WritesRun-told c.args.script.now _ c.in-Ok.run'.pool c.in-Ok.run'.transcript c.in-Ok.run'.faulted false c.journal-journal.result.now.items c.name.result.now c.in-Ok.ensures.ran c.journal-journal.ensures.run c.in-Ok.ensures.faulted c.if-run.false (ap (λ (j : Entries). j.items) c.journal-journal.ensures.journal) c.name.ensures c.in-Ok-2.ensures.added
+    WritesRun-told c.args.head.now c.args.script.now _ c.in-Ok.run'.pool c.in-Ok.run'.transcript c.in-Ok.run'.faulted false c.name.result.now c.requires.head c.in-Ok.ensures.ran c.in-Ok.ensures.run c.in-Ok.ensures.faulted c.if-run.false c.name.ensures c.in-Ok-2.ensures.added
 
 pub returns-in-Err-Failed-clause-answer : goal.returns-in-Err-Failed-clause-answer
 returns-in-Err-Failed-clause-answer g c =
     let output : Output = record { written = g.K.Sink.written c.args.sink.now; written_after = g.K.Sink.written c.write_output.new.sink; failed = g.K.Sink.faults c.args.sink.now; failed_after = g.K.Sink.faults c.write_output.new.sink } in (
       search rules,
-      WritesFrontOfRun-told c.args.script.now output c.in-Ok.run'.pool c.in-Ok.run'.transcript c.in-Ok.run'.faulted c.journal-journal.result.now.items c.name.result.now c.in-Ok.ensures.ran c.journal-journal.ensures.run c.in-Ok.ensures.faulted (ap (λ (j : Entries). j.items) c.journal-journal.ensures.journal) c.name.ensures c.in-Err-Failed.ensures.front,
+      WritesFrontOfRun-told c.args.head.now c.args.script.now output c.in-Ok.run'.pool c.in-Ok.run'.transcript c.in-Ok.run'.faulted c.name.result.now c.requires.head c.in-Ok.ensures.ran c.in-Ok.ensures.run c.in-Ok.ensures.faulted c.name.ensures c.in-Err-Failed.ensures.front,
     )
 
 pub returns-clause-answer : goal.returns-clause-answer
 returns-clause-answer g c =
     let output : Output = record { written = g.K.Sink.written c.args.sink.now; written_after = g.K.Sink.written c.write_output.new.sink; failed = g.K.Sink.faults c.args.sink.now; failed_after = g.K.Sink.faults c.write_output.new.sink } in
-    inr (WritesFrontOfRun-told c.args.script.now output c.in-Ok.run'.pool c.in-Ok.run'.transcript c.in-Ok.run'.faulted c.journal-journal.result.now.items c.name.result.now c.in-Ok.ensures.ran c.journal-journal.ensures.run c.in-Ok.ensures.faulted (ap (λ (j : Entries). j.items) c.journal-journal.ensures.journal) c.name.ensures c.in-Err-Memory.ensures.front)
+    inr (WritesFrontOfRun-told c.args.head.now c.args.script.now output c.in-Ok.run'.pool c.in-Ok.run'.transcript c.in-Ok.run'.faulted c.name.result.now c.requires.head c.in-Ok.ensures.ran c.in-Ok.ensures.run c.in-Ok.ensures.faulted c.name.ensures c.in-Err-Memory.ensures.front)

@@ -1,10 +1,9 @@
-use Rattle.std.proofs.Common.{◌≡◌, ℕ, ◌+◌, ◌≤◌, length, false, true, List, [], ◌∷◌, ◌++◌, arith, replicate, subst, refl, sym, ap, ◌∙◌, inl}
+use Rattle.std.proofs.Common.{◌≡◌, ◌+◌, length, false, true, arith, replicate, sym, ap, ◌∙◌, inl}
 use Rattle.std.specs.List.{list_any}
 use Rattle.om_model.specs.ScriptRun.{is_fault}
-use Rattle.om_pool.specs.PoolView.{lone_rules}
 use Rattle.om_model.specs.declared.command.Command.{Command}
 use Rattle.om_model.specs.declared.command.Command.TheVariants.{Malloc}
-use Rattle.omalloc.proofs.RunLaws.{IsPart, IsPart-start, IsPart-at, IsPart-next, IsPart-stop, IsPart-over, IsPart-end, IsPart-pushed, IsEnded-pushed, IsPart-script, fault_more, faulted_last, length_more}
+use Rattle.omalloc.proofs.RunLaws.{IsPart-at, IsPart-next, IsPart-stop, IsPart-over, IsPart-end, IsPart-pushed, IsEnded-pushed, IsPart-script, fault_more, faulted_last, length_more, lone_head}
 use Rattle.omalloc.proofs.run.run_script.Goals as goal
 
 pub loop-i-init : goal.loop-i-init
@@ -13,7 +12,8 @@ loop-i-init g c =
     c.in_ok-values.ensures.items_if_clones_equal (λ y h. h) ∙ ap (λ n. replicate n 0) c.variables.ensures in
     record {
       items = c.commands-command-items.ensures;
-      rules = c.in_ok-pool.ensures.rules ∙ ap lone_rules c.in_ok-vec.ensures.items;
+      rules = c.in_ok-pool.ensures.rules ∙ lone_head c.head.inside.opts c.head.inside.zones c.head.inside.plan c.head.inside.warned.items c.args.head.now c.in_ok-words.words c.head.view_is c.requires.head.zones c.in_ok-words.ensures;
+      run = c.in_ok-pool.ensures.run;
       variables = c.in_ok-values.ensures.len ∙ c.variables.ensures;
       outcomes = ap length c.new-transcript.ensures;
       entries = omega (arith, ap length c.in_ok-pool.ensures.entries);
@@ -38,6 +38,7 @@ returns-then-is_fault g c =
         script_run = IsPart-end _ _ _ _ (IsEnded-pushed c.args.script.now.commands _ _ pushed (faulted_last c.args.script.now.commands outcomes o fault)) (IsPart-pushed _ _ _ _ _ pushed stop);
         only = stop.only;
       };
+      run = c.in_ok-outcome.ensures.run c.loop-i.invariant.run;
       faulted = sym (ap (list_any is_fault) pushed ∙ fault_more outcomes o true c.loop-i.invariant.fine fault);
     }
 
@@ -55,6 +56,7 @@ loop-i-preserved g c =
     record {
       items = c.loop-i.invariant.items;
       rules = c.in_ok-outcome.ensures.rules ∙ c.loop-i.invariant.rules;
+      run = c.in_ok-outcome.ensures.run c.loop-i.invariant.run;
       variables = c.in_ok-outcome.ensures.variables ∙ c.loop-i.invariant.variables;
       outcomes = ap length pushed ∙ length_more outcomes o ∙ ap (λ n. n + 1) c.loop-i.invariant.outcomes;
       entries = omega (arith, c.in_ok-outcome.ensures.entries, c.loop-i.invariant.entries);
@@ -72,5 +74,6 @@ returns g c =
         script_run = IsPart-end _ _ _ _ (inl (omega (arith, c.loop-i.invariant.outcomes, c.loop-i-test.false, c.loop-i.auto.i-end, ap length c.commands-command-items.ensures))) over;
         only = over.only;
       };
+      run = c.loop-i.invariant.run;
       faulted = sym c.loop-i.invariant.fine;
     }

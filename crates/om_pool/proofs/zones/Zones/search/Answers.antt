@@ -5,12 +5,12 @@ use Rattle.std.proofs.lemmas.List.FromFn.{map-range_with_len_more}
 use Rattle.std.proofs.lemmas.Bool.{cases_eq}
 use Rattle.std.proofs.lemmas.Grind.{common_steps, get_or_default_zero}
 use Rattle.om_model.specs.declared.looks.Look.{Look}
-use Rattle.om_pool.specs.Zones.{ZoneTable, ArePassed, fit_in, look_of, zone_of}
+use Rattle.om_pool.specs.Zones.{ZoneTable, ArePassed, fit_in, look_of, searched_in}
 use Rattle.om_pool.proofs.zones.Zones.search.Goals as goal
 use mathlib.Core.Logic.{⊎_elim}
 
 -- one more zone is passed over
-ArePassed-push : (table : ZoneTable) (n word : ℕ) (looks : List Look) (look : Look) → ArePassed table n word looks → look ≡ look_of table word (length looks) → fit_in table n word (zone_of table word (length looks)) ≡ None → ArePassed table n word (looks ++ look ∷ [])
+ArePassed-push : (table : ZoneTable) (n word : ℕ) (looks : List Look) (look : Look) → ArePassed table n word looks → look ≡ look_of table word (length looks) → fit_in table n word (searched_in table word (length looks)) ≡ None → ArePassed table n word (looks ++ look ∷ [])
 ArePassed-push table n word looks look passed same none = record {
   named =
       ap (λ (l : Look). looks ++ l ∷ []) same
@@ -18,7 +18,7 @@ ArePassed-push table n word looks look passed same none = record {
       ∙ sym (map-range_with_len_more (look_of table word) 0 (length looks) (length looks) (omega arith))
       ∙ ap (λ k. map (look_of table word) (range_with_len 0 k)) (sym (length_push looks look));
   full = λ i lt. ⊎_elim
-      (λ e. subst (λ k. fit_in table n word (zone_of table word k) ≡ None) (sym e) none)
+      (λ e. subst (λ k. fit_in table n word (searched_in table word k) ≡ None) (sym e) none)
       (λ ne. let short = length_push looks look in passed.full i (omega arith))
       (cases_eq i (length looks));
 }

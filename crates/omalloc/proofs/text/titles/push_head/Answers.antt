@@ -1,14 +1,11 @@
-use Rattle.std.proofs.Common.{[], ◌∷◌, ◌++◌, ◌∙◌, ap, map, codes}
-use Rattle.std.specs.List.{join_with_byte}
-use Rattle.std.specs.Fmt.{decimal}
-use Rattle.omalloc.proofs.Titles.{head_text, four_parts}
+use Rattle.std.proofs.lemmas.Result.{IfOk-equal}
+use Rattle.omalloc.proofs.Titles.{head_added}
 use Rattle.omalloc.proofs.text.titles.push_head.Goals as goal
 
 pub returns : goal.returns
 returns c =
     let first = c.in_ok-extend_from_slice.ensures.items in
-    let second = c.in_ok-extend_from_slice-2.ensures.items in
-    let third = c.in_ok-push_listed.ensures in
-    let fourth = c.in_ok-push.ensures.items in
-    let regrouped = four_parts c.args.out.now.items (codes "omalloc 1\nzones 64 pools 1 flags ------- junk 1 cache 64\n") (codes "words list ") (join_with_byte 44 (map decimal c.args.words.now)) (10 ∷ []) in
-    rw (fourth, third, second, first) (regrouped ∙ ap (λ text. c.args.out.now.items ++ text) (head_text c.args.words.now))
+    let second = c.in_ok-push_options.ensures in
+    let third = c.in_ok-push_plan.ensures in
+    let inside = c.head.inside in
+    IfOk-equal _ _ _ _ c.push_warnings.ensures (rw (third, second, first) (head_added c.args.out.now.items inside.opts inside.zones inside.plan inside.warned.items c.as_slice.result.now c.args.head.now c.head.view_is c.as_slice.ensures.value))
