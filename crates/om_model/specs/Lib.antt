@@ -9,7 +9,11 @@ pub mod PlaceLaws
 pub mod PoolState
 pub mod Room
 pub mod Rules
+pub mod SlowJournals
+pub mod SlowScripts
+pub mod SlowStates
 pub mod SoundStates
+pub mod StepLaws
 pub mod Steps
 pub mod JournalLaws
 pub mod LawfulJournal

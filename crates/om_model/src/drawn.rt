@@ -57,4 +57,10 @@ impl Drawn {
     {
         self.words[i as usize]
     }
+
+    pub(crate) fn as_slice(&self) -> &[u32]
+        ensures { result.now ≡ self.now }
+    {
+        &self.words[..self.len as usize]
+    }
 }

@@ -78,4 +78,10 @@ impl LookList {
     {
         self.looks[i as usize]
     }
+
+    pub(crate) fn as_slice(&self) -> &[Look]
+        ensures { result.now ≡ self.now.items }
+    {
+        &self.looks
+    }
 }

@@ -1,6 +1,8 @@
 ghost use Rattle.std.specs.Prelude.{◌≡◌, ◌≤◌, [], IfOk, IsSome};
 ghost use Rattle.om_model.specs.LawfulJournal.{served_class};
 
+mod lawful;
+
 use super::*;
 use om_geom::Addr;
 use om_model::{Entry, Fault, Move, Place, Reply, Who, slow};
