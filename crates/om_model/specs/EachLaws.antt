@@ -61,7 +61,7 @@ all-get P (x ∷ xs) (suc i) y all found = all-get P xs i y all.1 found
 
 -- ---- tests of which none holds, or one does
 
-or_none : (a b : Bool) → (a || b) ≡ false → (a ≡ false) × (b ≡ false)
+pub or_none : (a b : Bool) → (a || b) ≡ false → (a ≡ false) × (b ≡ false)
 or_none true b e = cc
 or_none false b e = (refl, e)
 

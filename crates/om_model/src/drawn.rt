@@ -20,6 +20,7 @@ impl Model for Drawn {
 }
 
 impl Drawn {
+    /// No words.
     pub fn empty() -> Drawn
         ensures { result ≡ [] }
     {
@@ -29,6 +30,7 @@ impl Drawn {
         }
     }
 
+    /// Adds the next word.
     pub fn push(&mut self, word: u32)
         requires { length self.old < 4 }
         ensures { self.new ≡ self.old ++ word ∷ [] }
@@ -37,6 +39,7 @@ impl Drawn {
         self.len += 1;
     }
 
+    /// How many words there are.
     pub fn len(&self) -> u32
         ensures len { result ≡ length self.now }
         ensures bound { result ≤ 4 }
@@ -44,6 +47,7 @@ impl Drawn {
         self.len
     }
 
+    /// Whether there is no word.
     pub fn is_empty(&self) -> bool
         ensures { result ≡ (length self.now == 0) }
     {

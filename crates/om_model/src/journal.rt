@@ -22,6 +22,7 @@ impl Model for Journal {
 }
 
 impl Journal {
+    /// No entries yet. Room is taken from this allocator later.
     pub fn new(alloc: Global) -> Journal
         ensures { result.items ≡ [] }
     {
@@ -53,18 +54,21 @@ impl Journal {
         }
     }
 
+    /// How many entries there are.
     pub fn len(&self) -> u32
         ensures len { result ≡ length self.now.items }
     {
         self.entries.len() as u32
     }
 
+    /// Whether there is no entry.
     pub fn is_empty(&self) -> bool
         ensures { result ≡ (length self.now.items == 0) }
     {
         self.entries.is_empty()
     }
 
+    /// Entry `i`, from 0.
     pub fn entry(&self, i: u32) -> &Entry
         requires { i < length self.now.items }
         ensures { slice_get self.now.items i ≡ Some result.now }

@@ -28,6 +28,7 @@ impl Model for LookList {
 }
 
 impl LookList {
+    /// No looks, and no room for any.
     pub fn empty(alloc: Global) -> LookList
         ensures { result.items ≡ [] }
     {
@@ -59,12 +60,14 @@ impl LookList {
         }
     }
 
+    /// How many looks there are.
     pub fn len(&self) -> u32
         ensures len { result ≡ length self.now.items }
     {
         self.looks.len() as u32
     }
 
+    /// Whether there is no look.
     pub fn is_empty(&self) -> bool
         ensures { result ≡ (length self.now.items == 0) }
     {

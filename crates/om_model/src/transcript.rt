@@ -22,6 +22,7 @@ impl Model for Transcript {
 }
 
 impl Transcript {
+    /// No outcomes yet. Room is taken from this allocator later.
     pub fn new(alloc: Global) -> Transcript
         ensures { result ≡ [] }
     {
@@ -30,6 +31,7 @@ impl Transcript {
         }
     }
 
+    /// Adds the outcome of the next command. After want of memory the list is as before.
     pub fn push(&mut self, outcome: Outcome) -> Result<(), AllocError>
         requires { length self.old < 2 ^ 32 - 1 }
         ensures ok { OnOk result (self.new ≡ self.old ++ outcome ∷ []) }
@@ -39,18 +41,21 @@ impl Transcript {
         Ok(())
     }
 
+    /// How many commands were done.
     pub fn len(&self) -> u32
         ensures { result ≡ length self.now }
     {
         self.outcomes.len() as u32
     }
 
+    /// Whether no command was done.
     pub fn is_empty(&self) -> bool
         ensures { result ≡ (length self.now == 0) }
     {
         self.outcomes.is_empty()
     }
 
+    /// The outcome of command `i + 1`.
     pub fn outcome(&self, i: u32) -> &Outcome
         requires { i < length self.now }
         ensures { slice_get self.now i ≡ Some result.now }

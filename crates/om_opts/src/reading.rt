@@ -41,6 +41,7 @@ pub fn parse(alloc: Global, letters: &[u8]) -> Result<Parsed, AllocError>
 }
 
 impl Parsed {
+    /// The options that the letters leave.
     pub fn opts(&self) -> Opts
         ensures value { result ≡ self.now.opts }
         ensures within { IsWithin result }

@@ -27,7 +27,8 @@ use Rattle.om_pool.specs.PoolKept.{is_page_among, IsLiveOn, IsSlotOn, IsKept, Fi
 use Rattle.om_pool.specs.Served.{IsServed, first_word, second_word}
 use Rattle.om_pool.proofs.LookLaws.{looked-claim, looked-refused}
 use Rattle.om_pool.proofs.Kept.{IsStep, kept-step}
-use Rattle.om_pool.proofs.Held.{held-with_page, all-weaker, all-with_page, Ascends-with_page}
+use Rattle.om_model.specs.EachLaws.{all-weaker, all-with_page}
+use Rattle.om_pool.proofs.Held.{held-with_page, Ascends-with_page}
 use Rattle.om_pool.proofs.MallocLaws.{IsMallocEntry, malloc-agrees, wish-is, wish-none, step-is, malloc-none, placed-formed, placed-words, placed-release, placed-drawn, stands-still, still-few}
 use Rattle.om_pool.proofs.ZoneAnswers.{looks-searched, claim-lawful}
 use Rattle.om_pool.proofs.ZoneLaws.{claim-pages, claim-clear, claim-within, claim-zone, moved-zones, Stands-claim}

@@ -15,7 +15,7 @@ use Rattle.om_model.specs.declared.reply.Reply.TheVariants as reply
 use Rattle.om_model.specs.declared.reply.Fault.TheVariants as fault
 use Rattle.om_pool.specs.PoolKept.{IsSlotOn, FitsTable}
 use Rattle.om_pool.specs.Zones.{ZoneTable}
-use Rattle.om_pool.proofs.Held.{all-append}
+use Rattle.om_model.specs.EachLaws.{all-append}
 
 -- whether the address is the first byte of a place of the page
 abbrev pub begins : ℕ → ℕ → ℕ → Bool

@@ -1,5 +1,5 @@
 -- What a free keeps.
-use Rattle.std.proofs.Common.{◌≡◌, ℕ, ◌+◌, ◌≤◌, zero, suc, ◌<◌, ◌==◌, ◌&&◌, ◌||◌, ◌/◌, not, nat_le, Bool, true, false, cond, IsTrue, List, [], ◌∷◌, ◌++◌, length, Option, Some, None, refl, sym, ap, ◌∙◌, subst, arith, length-set}
+use Rattle.std.proofs.Common.{◌≡◌, ℕ, ◌+◌, ◌≤◌, zero, suc, ◌<◌, ◌==◌, ◌&&◌, ◌/◌, not, nat_le, Bool, true, false, cond, IsTrue, List, [], ◌∷◌, ◌++◌, length, Option, Some, None, refl, sym, ap, ◌∙◌, subst, arith, length-set}
 use Rattle.std.specs.Prelude.{slice_set}
 use Rattle.std.specs.List.{filter, filter_map, cons_option, list_any, AllByRecursion}
 use Rattle.std.specs.Option.{option_map, is_some}
@@ -30,7 +30,8 @@ use Rattle.om_pool.specs.ZoneStand.{Stands}
 use Rattle.om_pool.proofs.LookLaws.{looked-still, looked-release}
 use Rattle.om_pool.proofs.ClaimLaws.{single}
 use Rattle.om_pool.proofs.ZoneLaws.{moved-zones, release-pages, Stands-release}
-use Rattle.om_pool.proofs.Held.{held-without_page, all-filter, Ascends-without_page}
+use Rattle.om_model.specs.EachLaws.{all-filter, or_none}
+use Rattle.om_pool.proofs.Held.{held-without_page, Ascends-without_page}
 use Rattle.om_pool.proofs.Kept.{IsStep, kept-step}
 use Rattle.om_pool.proofs.MallocLaws.{stands-still, still-few}
 
@@ -142,10 +143,6 @@ fits-drawn rules state table fits = record { zones = fits.zones; slots = fits.sl
 
 -- ---- a page is released
 
-or_false : (a b : Bool) → (a || b) ≡ false → (a ≡ false) × (b ≡ false)
-or_false true b e = cc
-or_false false b e = (refl, e)
-
 keeps-without : (page other : ℕ) (held : List ℕ) → is_page_among held other ≡ true → (other == page) ≡ false → is_page_among (without_page page held) other ≡ true
 keeps-without page other held among ne = held-without_page page other held ∙ ap (λ b. b && not (other == page)) among ∙ ap not ne
 
@@ -154,7 +151,7 @@ live_step : (page : ℕ) (block : Block) (class : Option ℕ) (rest : List Place
     → is_some (option_map (λ c. let place : Place = record { address = block.address; class = c } in place) class) ≡ true
     → ((page_at block.address == page) ≡ false) × (list_any (touches page) rest ≡ false)
 live_step page block None rest none some = cc
-live_step page block (Some c) rest none some = or_false _ _ none
+live_step page block (Some c) rest none some = or_none _ _ none
 
 -- no place in use touches a free page: so no live block and no slot lies on it
 untouched-live : (rules : Rules) (held : List ℕ) (page : ℕ) (live : List Block) → list_any (touches page) (filter_map (chunk_of rules.options.canary) live) ≡ false
@@ -169,7 +166,7 @@ untouched-slots : (held : List ℕ) (page : ℕ) (slots : List (Option Place)) �
 untouched-slots held page [] none all = tt
 untouched-slots held page (None ∷ slots) none all = (tt, untouched-slots held page slots none all.1)
 untouched-slots held page (Some place ∷ slots) none all =
-    let step = or_false (touches page place) (list_any (touches page) (delayed slots)) none in
+    let step = or_none (touches page place) (list_any (touches page) (delayed slots)) none in
     (record { on_held = keeps-without page (page_at place.address) held (all.0).on_held step.0; class = (all.0).class }, untouched-slots held page slots step.1 all.1)
 
 not_false : (b : Bool) → not b ≡ true → b ≡ false
@@ -188,7 +185,7 @@ pub fits-released : (rules : Rules) (state : State) (old new : ZoneTable) (page 
     → FitsTable rules state old → FitsTable rules (record state { held = without_page page state.held }) new
 fits-released rules state old new page move free released fits =
     let none = not_false (list_any (touches page) (places rules state)) free in
-    let parts = or_false (list_any (touches page) (filter_map (chunk_of rules.options.canary) state.live)) (list_any (touches page) (delayed state.slots))
+    let parts = or_none (list_any (touches page) (filter_map (chunk_of rules.options.canary) state.live)) (list_any (touches page) (delayed state.slots))
     (sym (list_any-append (touches page) (filter_map (chunk_of rules.options.canary) state.live) (delayed state.slots)) ∙ none) in
     record {
       zones = moved-zones old new move.zone released.moved ∙ fits.zones;

@@ -6,6 +6,7 @@ use borrow.Author.Tests.{ltb-true}
 use Rattle.std.proofs.lemmas.Bool.Decides.{nat_tests}
 use Rattle.std.proofs.lemmas.List.Folds.{list_any-append}
 use mathlib.Core.Logic.{⊎_elim}
+use Rattle.om_model.specs.EachLaws.{all-filter, all-append, all-weaker, passes-filter, or_none}
 use Rattle.om_model.specs.PoolState.{with_page, without_page}
 use Rattle.om_pool.specs.PoolKept.{Ascends, is_page_among}
 
@@ -21,10 +22,6 @@ filter_above-above page (x ∷ xs) all = let test : nat_lt page x ≡ true = gri
 all_above : (low page : ℕ) (pages : List ℕ) → low < page → AllByRecursion (λ other. page < other) pages → AllByRecursion (λ other. low < other) pages
 all_above low page [] lt all = all
 all_above low page (x ∷ xs) lt all = (omega (arith, all.0), all_above low page xs lt all.1)
-
-or_false : (a b : Bool) → (a || b) ≡ false → (a ≡ false) × (b ≡ false)
-or_false true b e = cc
-or_false false b e = (refl, e)
 
 insert_below : (page x : ℕ) (xs : List ℕ) → x < page → insert xs (length (filter (λ other. nat_lt other page) xs)) page ≡ with_page page xs
     → insert (x ∷ xs) (length (filter (λ other. nat_lt other page) (x ∷ xs))) page ≡ with_page page (x ∷ xs)
@@ -44,7 +41,7 @@ insert_above page x xs lt all =
 pub insert-with_page : (page : ℕ) (held : List ℕ) → Ascends held → is_page_among held page ≡ false → insert held (length (filter (λ other. nat_lt other page) held)) page ≡ with_page page held
 insert-with_page page [] ascends fresh = refl
 insert-with_page page (x ∷ xs) ascends fresh =
-    let parts = or_false (nat_eq page x) (is_page_among xs page) fresh in
+    let parts = or_none (nat_eq page x) (is_page_among xs page) fresh in
     ⊎_elim
     (λ lt. insert_below page x xs lt (insert-with_page page xs ascends.1 parts.1))
     (λ le. insert_above page x xs (let ne = eqb-false page x parts.0 in omega (arith, ne)) ascends.0)
@@ -97,22 +94,6 @@ held-without_page page other held = held-filter (λ x. not (x == page)) held oth
 
 -- ---- ascending lists
 
-all-cond : {X : Type 0} (P : X → Type 0) (here : Bool) (x : X) (xs : List X) → P x → AllByRecursion P xs → AllByRecursion P (cond here (x ∷ xs) xs)
-all-cond P true x xs first rest = (first, rest)
-all-cond P false x xs first rest = rest
-
-pub all-filter : {X : Type 0} (P : X → Type 0) (test : X → Bool) (xs : List X) → AllByRecursion P xs → AllByRecursion P (filter test xs)
-all-filter P test [] all = all
-all-filter P test (x ∷ xs) all = all-cond P (test x) x (filter test xs) all.0 (all-filter P test xs all.1)
-
-pub all-append : {X : Type 0} (P : X → Type 0) (xs ys : List X) → AllByRecursion P xs → AllByRecursion P ys → AllByRecursion P (xs ++ ys)
-all-append P [] ys first second = second
-all-append P (x ∷ xs) ys first second = (first.0, all-append P xs ys first.1 second)
-
-pub all-weaker : {X : Type 0} (P Q : X → Type 0) (xs : List X) → ((x : X) → P x → Q x) → AllByRecursion P xs → AllByRecursion Q xs
-all-weaker P Q [] step all = tt
-all-weaker P Q (x ∷ xs) step all = (step x all.0, all-weaker P Q xs step all.1)
-
 ascends-cond : (here : Bool) (x : ℕ) (xs : List ℕ) → AllByRecursion (λ other. x < other) xs → Ascends xs → Ascends (cond here (x ∷ xs) xs)
 ascends-cond true x xs first rest = (first, rest)
 ascends-cond false x xs first rest = rest
@@ -122,13 +103,8 @@ Ascends-filter test [] ascends = tt
 Ascends-filter test (x ∷ xs) ascends = ascends-cond (test x) x (filter test xs) (all-filter (λ other. x < other) test xs ascends.0) (Ascends-filter test xs ascends.1)
 
 -- what passes a test, where the test says so
-passes-filter : (P : ℕ → Type 0) (test : ℕ → Bool) → ((x : ℕ) → test x ≡ true → P x) → (xs : List ℕ) → AllByRecursion P (filter test xs)
-passes-filter P test says [] = tt
-passes-filter P test says (x ∷ xs) = passes_step (test x) x (filter test xs) (says x) (passes-filter P test says xs)
-  where
-    passes_step : (here : Bool) (x : ℕ) (xs : List ℕ) → (here ≡ true → P x) → AllByRecursion P xs → AllByRecursion P (cond here (x ∷ xs) xs)
-    passes_step true x xs first rest = (first refl, rest)
-    passes_step false x xs first rest = rest
+passes : (P : ℕ → Type 0) (test : ℕ → Bool) → ((x : ℕ) → test x ≡ true → P x) → (xs : List ℕ) → AllByRecursion P (filter test xs)
+passes P test says xs = all-weaker (λ x. test x ≡ true) P (filter test xs) says (passes-filter test xs)
 
 ascends-append : (page : ℕ) (below above : List ℕ) → AllByRecursion (λ x. x < page) below → Ascends below → AllByRecursion (λ x. page < x) above → Ascends above → Ascends (below ++ page ∷ above)
 ascends-append page [] above low first high second = (high, second)
@@ -138,17 +114,11 @@ ascends-append page (x ∷ xs) above low first high second =
 pub Ascends-with_page : (page : ℕ) (held : List ℕ) → Ascends held → Ascends (with_page page held)
 Ascends-with_page page held ascends =
     ascends-append page (filter (λ x. nat_lt x page) held) (filter (nat_lt page) held)
-    (passes-filter (λ x. x < page) (λ x. nat_lt x page) (λ x. ltb-true x page) held) (Ascends-filter (λ x. nat_lt x page) held ascends)
-    (passes-filter (λ x. page < x) (nat_lt page) (λ x. ltb-true page x) held) (Ascends-filter (nat_lt page) held ascends)
+    (passes (λ x. x < page) (λ x. nat_lt x page) (λ x. ltb-true x page) held) (Ascends-filter (λ x. nat_lt x page) held ascends)
+    (passes (λ x. page < x) (nat_lt page) (λ x. ltb-true page x) held) (Ascends-filter (nat_lt page) held ascends)
 
 pub Ascends-without_page : (page : ℕ) (held : List ℕ) → Ascends held → Ascends (without_page page held)
 Ascends-without_page page held ascends = Ascends-filter (λ x. not (x == page)) held ascends
-
--- a fact of every page stays one where a page of that kind comes in
-pub all-with_page : (P : ℕ → Type 0) (page : ℕ) (held : List ℕ) → P page → AllByRecursion P held → AllByRecursion P (with_page page held)
-all-with_page P page held first all =
-    all-append P (filter (λ x. nat_lt x page) held) (page ∷ filter (nat_lt page) held)
-    (all-filter P (λ x. nat_lt x page) held all) (first, all-filter P (nat_lt page) held all)
 
 -- what holds of all held pages holds of one of them
 pub held-all : (P : ℕ → Type 0) (pages : List ℕ) (page : ℕ) → AllByRecursion P pages → is_page_among pages page ≡ true → P page

@@ -15,9 +15,9 @@ use Rattle.om_model.specs.declared.entry.Entry.TheVariants.{Call, Phase}
 use Rattle.om_pool.specs.Zones.{ZoneTable, searched_in, look_of, ArePassed, IsClaimed, IsReleased}
 use Rattle.om_pool.specs.ZoneStand.{Stands}
 use Rattle.om_pool.specs.LooksKept.{IsHad, IsLooked}
-use Rattle.om_pool.proofs.Held.{all-append}
+use Rattle.om_model.specs.EachLaws.{all-append, all-weaker}
 use Rattle.om_pool.proofs.ZoneLaws.{all_range, looks-true, IsTrueLook-push, claim-next, release-next}
-use Rattle.om_pool.proofs.ZoneMoves.{all_map, all_push, last_version-same, last_version-grows}
+use Rattle.om_pool.proofs.ZoneMoves.{all_push, last_version-same, last_version-grows}
 
 -- ---- versions that come after others
 
@@ -33,7 +33,7 @@ comes-after moves earlier later had next zone =
     (omega arith, λ m. let above = next.above m in omega arith)
 
 all-after : (moves : List ZoneMove) (earlier : Named) (later : List Named) → IsHad moves earlier → AllByRecursion (IsNext moves) later → AllByRecursion (ComesAfter earlier) later
-all-after moves earlier later had next = all_map (IsNext moves) (ComesAfter earlier) later (λ named. comes-after moves earlier named had) next
+all-after moves earlier later had next = all-weaker (IsNext moves) (ComesAfter earlier) later (λ named. comes-after moves earlier named had) next
 
 -- versions that were had, and then the next
 Rises-append : (moves : List ZoneMove) (earlier later : List Named) → Rises earlier → AllByRecursion (IsHad moves) earlier → Rises later → AllByRecursion (IsNext moves) later → Rises (earlier ++ later)
@@ -64,11 +64,11 @@ Grows-push : (moves : List ZoneMove) (m : ZoneMove) → m.move.version ≡ last_
 Grows-push moves m next = record { looks = λ n word look. IsTrueLook-push moves m n word look next; versions = last_version-grows moves m }
 
 true-later : (moves later : List ZoneMove) → Grows moves later → (entry : Entry) → HasTrueLooks moves entry → HasTrueLooks later entry
-true-later moves later grows (Call entry) still = all_map (IsTrueLook moves (sought entry.op) (searched_by entry)) (IsTrueLook later (sought entry.op) (searched_by entry)) entry.looks.items (grows.looks (sought entry.op) (searched_by entry)) still
+true-later moves later grows (Call entry) still = all-weaker (IsTrueLook moves (sought entry.op) (searched_by entry)) (IsTrueLook later (sought entry.op) (searched_by entry)) entry.looks.items (grows.looks (sought entry.op) (searched_by entry)) still
 true-later moves later grows (Phase number) still = tt
 
 had-later : (moves later : List ZoneMove) → Grows moves later → (all : List Named) → AllByRecursion (IsHad moves) all → AllByRecursion (IsHad later) all
-had-later moves later grows all had = all_map (IsHad moves) (IsHad later) all (λ named low. let more = grows.versions named.zone in omega arith) had
+had-later moves later grows all had = all-weaker (IsHad moves) (IsHad later) all (λ named low. let more = grows.versions named.zone in omega arith) had
 
 -- ---- one call more
 
@@ -87,7 +87,7 @@ looked-push pool entries entry later names looked moves_are names_are grows look
     let Had : List ZoneMove → Type 0 = λ ms. AllByRecursion (IsHad ms) (flat_map named_in (entries ++ Call entry ∷ [])) in
     record {
       looks = subst Looks (sym moves_after) (record {
-        true_looks = all_push (HasTrueLooks later) entries (Call entry) (all_map (HasTrueLooks before) (HasTrueLooks later) entries (true-later before later grows) (looked.looks).true_looks) looks;
+        true_looks = all_push (HasTrueLooks later) entries (Call entry) (all-weaker (HasTrueLooks before) (HasTrueLooks later) entries (true-later before later grows) (looked.looks).true_looks) looks;
         rising = subst Rises (sym names_after) (Rises-append before so_far names (looked.looks).rising looked.had named.rises named.next);
       });
       had = subst Had (sym moves_after) (subst (AllByRecursion (IsHad later)) (sym names_after) (all-append (IsHad later) so_far names (had-later before later grows so_far looked.had) named.had));
@@ -118,11 +118,11 @@ looks-last pool moves table n word looks stands some passed =
 
 last-next : (moves : List ZoneMove) (looks : List Look) → AllByRecursion (IsLast moves) looks → AllByRecursion (IsNext moves) (map named_by_look looks)
 last-next moves looks last = all-map (IsNext moves) named_by_look looks
-    (all_map (IsLast moves) (λ look. IsNext moves (named_by_look look)) looks (λ look (same : IsLast moves look). record { from = omega arith; above = λ moved. absurd (false≢true moved) }) last)
+    (all-weaker (IsLast moves) (λ look. IsNext moves (named_by_look look)) looks (λ look (same : IsLast moves look). record { from = omega arith; above = λ moved. absurd (false≢true moved) }) last)
 
 last-had : (moves : List ZoneMove) (looks : List Look) → AllByRecursion (IsLast moves) looks → AllByRecursion (IsHad moves) (map named_by_look looks)
 last-had moves looks last = all-map (IsHad moves) named_by_look looks
-    (all_map (IsLast moves) (λ look. IsHad moves (named_by_look look)) looks (λ look (same : IsLast moves look). omega arith) last)
+    (all-weaker (IsLast moves) (λ look. IsHad moves (named_by_look look)) looks (λ look (same : IsLast moves look). omega arith) last)
 
 -- a call that looks, and makes no move
 looked-unmoved : (pool : ℕ) (entries : List Entry) (entry : CallEntry) → IsLooked pool entries → entry.claim ≡ None → entry.release ≡ None → entry.taken ≡ None

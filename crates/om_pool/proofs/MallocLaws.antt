@@ -32,7 +32,8 @@ use Rattle.om_pool.specs.PoolKept.{is_page_among, IsLiveOn, IsKept, FitsTable}
 use Rattle.om_pool.specs.Served.{IsServed, first_word, second_word}
 use Rattle.om_pool.proofs.LookLaws.{looked-still}
 use Rattle.om_pool.proofs.Kept.{IsStep, kept-step}
-use Rattle.om_pool.proofs.Held.{held-filter, all-append}
+use Rattle.om_model.specs.EachLaws.{all-append}
+use Rattle.om_pool.proofs.Held.{held-filter}
 
 -- ---- an own page is a held one
 

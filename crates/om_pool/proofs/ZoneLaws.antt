@@ -15,7 +15,9 @@ use Rattle.om_pool.specs.Zones.{ZoneTable, is_held, is_page_held, version_of, se
 use Rattle.om_pool.specs.ZoneStand.{IsOwnMove, Stands}
 use Rattle.std.proofs.Math.Bool.{or-false, and-true}
 use mathlib.Core.Logic.{⊎_elim}
-use Rattle.om_pool.proofs.ZoneMoves.{all_map, all_push, fit_of-same, last_version-le, last_version-same, last_version-other, last_version-grows, owner-stable, owner-next, order-push}
+use Rattle.om_geom.specs.BitLaws.{fit_of-same}
+use Rattle.om_model.specs.EachLaws.{all-weaker}
+use Rattle.om_pool.proofs.ZoneMoves.{all_push, last_version-le, last_version-same, last_version-other, last_version-grows, owner-stable, owner-next, order-push}
 
 -- ---- the table
 
@@ -39,7 +41,7 @@ pub moved-held : (old new : ZoneTable) (zone other bit : ℕ) → IsMoved old ne
 moved-held old new zone other bit moved ne = ap (λ bits. has_bit bits bit) (moved-bits old new zone other moved ne)
 
 -- the move is the pool's next, and the table after it has what it leaves
-record IsStep (number : ℕ) (moves : List ZoneMove) (old new : ZoneTable) (m : ZoneMove) : Type 0 where
+record IsNextMove (number : ℕ) (moves : List ZoneMove) (old new : ZoneTable) (m : ZoneMove) : Type 0 where
   by : m.pool ≡ number
   zone : m.move.zone < length old.bits
   version : m.move.version ≡ version_of old m.move.zone + 1
@@ -47,11 +49,11 @@ record IsStep (number : ℕ) (moves : List ZoneMove) (old new : ZoneTable) (m : 
   held : (bit : ℕ) → bit < 32 → is_held new m.move.zone bit ≡ is_some (owner_after (Some m) bit (owner moves m.move.zone (last_version moves m.move.zone) bit))
   lawful : IsLawfulMove moves m
 
-Stands-push : (number : ℕ) (moves : List ZoneMove) (old new : ZoneTable) (m : ZoneMove) → Stands number moves old → IsStep number moves old new m → Stands number (moves ++ m ∷ []) new
+Stands-push : (number : ℕ) (moves : List ZoneMove) (old new : ZoneTable) (m : ZoneMove) → Stands number moves old → IsNextMove number moves old new m → Stands number (moves ++ m ∷ []) new
 Stands-push number moves old new m stands step = record {
   order = order-push number (length old.bits) moves m stands.own stands.order next step.lawful;
   own = subst (λ n. AllByRecursion (IsOwnMove number n (moves ++ m ∷ [])) (moves ++ m ∷ [])) (sym long) (all_push (IsOwnMove number (length old.bits) (moves ++ m ∷ [])) moves m
-      (all_map (IsOwnMove number (length old.bits) moves) (IsOwnMove number (length old.bits) (moves ++ m ∷ [])) moves
+      (all-weaker (IsOwnMove number (length old.bits) moves) (IsOwnMove number (length old.bits) (moves ++ m ∷ [])) moves
       (λ x (mine : IsOwnMove number (length old.bits) moves x). record { pool = mine.pool; zone = mine.zone; version = let low = mine.version in let grows = last_version-grows moves m x.move.zone in omega arith })
       stands.own)
       (record { pool = step.by; zone = step.zone; version = let more = last_version-same moves m m.move.zone refl in omega arith }));
@@ -176,7 +178,7 @@ owner-own number moves zone bit (suc u) own held = own-after_move (find (is_at z
     held
 
 pub Stands-pool : (number : ℕ) (moves : List ZoneMove) (table : ZoneTable) → Stands number moves table → AllByRecursion (λ m. m.pool ≡ number) moves
-Stands-pool number moves table stands = all_map (IsOwnMove number (length table.bits) moves) (λ m. m.pool ≡ number) moves (λ m (mine : IsOwnMove number (length table.bits) moves m). mine.pool) stands.own
+Stands-pool number moves table stands = all-weaker (IsOwnMove number (length table.bits) moves) (λ m. m.pool ≡ number) moves (λ m (mine : IsOwnMove number (length table.bits) moves m). mine.pool) stands.own
 
 pub release-zone : (old new : ZoneTable) (page n : ℕ) (move : Move) → IsReleased old new page n move → page / 32 < length old.bits → move.zone < length old.bits
 release-zone old new page n move released lt = let zone = released.zone in omega arith
@@ -247,7 +249,7 @@ IsTrueLook-push moves m n word look next true_before = record {
 }
 
 pub looks-push : (moves : List ZoneMove) (m : ZoneMove) (n word : ℕ) (looks : List Look) → m.move.version ≡ last_version moves m.move.zone + 1 → AllByRecursion (IsTrueLook moves n word) looks → AllByRecursion (IsTrueLook (moves ++ m ∷ []) n word) looks
-looks-push moves m n word looks next all = all_map (IsTrueLook moves n word) (IsTrueLook (moves ++ m ∷ []) n word) looks (λ look. IsTrueLook-push moves m n word look next) all
+looks-push moves m n word looks next all = all-weaker (IsTrueLook moves n word) (IsTrueLook (moves ++ m ∷ []) n word) looks (λ look. IsTrueLook-push moves m n word look next) all
 
 -- ---- pages
 

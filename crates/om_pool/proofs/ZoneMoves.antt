@@ -1,24 +1,17 @@
 -- Lists of moves, and what one more move changes in them.
-use Rattle.std.proofs.Common.{◌≡◌, ◌≢◌, ℕ, zero, suc, ◌+◌, ◌-◌, ◌%◌, ◌<◌, ◌≤◌, Bool, true, false, cond, not, ◌&&◌, ◌==◌, nat_le, List, [], ◌∷◌, ◌++◌, length, Option, Some, None, refl, sym, subst, ◌∙◌, ap, arith, add-one, count_by}
-use Rattle.std.specs.List.{AllByRecursion, find, list_all, range_with_len}
+use Rattle.std.proofs.Common.{◌≡◌, ◌≢◌, ℕ, zero, suc, ◌+◌, ◌-◌, ◌%◌, ◌≤◌, Bool, true, false, cond, not, ◌==◌, List, [], ◌∷◌, ◌++◌, length, Option, Some, None, refl, subst, ◌∙◌, ap, arith, add-one, count_by}
+use Rattle.std.specs.List.{AllByRecursion, find}
 use Rattle.std.specs.Option.{is_some, option_or}
-use Rattle.std.proofs.lemmas.Bool.{cases_Bool, cases_eq, and_from, and_left, and_right, eq-eqb, ne_eqb, leb-true}
+use Rattle.std.proofs.lemmas.Bool.{cases_eq, and_from, and_left, and_right, eq-eqb, ne_eqb}
 use Rattle.std.proofs.lemmas.List.Folds.{find-append}
 use Rattle.std.proofs.lemmas.List.Sums.{sum_by-cons, sum_by_push, count_by-le-length}
-use Rattle.om_geom.specs.Fit.{cyclic, fit_of, is_clear_run}
+use Rattle.om_geom.specs.BitLaws.{fit_of-same}
+use Rattle.om_model.specs.EachLaws.{all-weaker, all-both}
 use Rattle.om_model.specs.ZoneOrder.{ZoneMove, IsZoneOrder, IsLawfulMove, is_at, last_version, owner, owner_after}
 use Rattle.om_pool.specs.ZoneStand.{IsOwnMove}
 use mathlib.Core.Logic.{⊎_elim}
 
 -- ---- each element of a list
-
-pub all_map : {X : Type 0} (P Q : X → Type 0) (xs : List X) → ((x : X) → P x → Q x) → AllByRecursion P xs → AllByRecursion Q xs
-all_map P Q [] f all = tt
-all_map P Q (x ∷ xs) f all = (f x all.0, all_map P Q xs f all.1)
-
-all_both : {X : Type 0} (P Q R : X → Type 0) (xs : List X) → ((x : X) → P x → Q x → R x) → AllByRecursion P xs → AllByRecursion Q xs → AllByRecursion R xs
-all_both P Q R [] f ps qs = tt
-all_both P Q R (x ∷ xs) f ps qs = (f x ps.0 qs.0, all_both P Q R xs f ps.1 qs.1)
 
 pub all_push : {X : Type 0} (P : X → Type 0) (xs : List X) (y : X) → AllByRecursion P xs → P y → AllByRecursion P (xs ++ y ∷ [])
 all_push P [] y all last = (last, tt)
@@ -61,27 +54,6 @@ count_by-push_yes test xs y passes =
     let last : tally (test y) ≡ 1 = ap tally passes in
     omega arith
 
--- ---- a fit reads the 32 bits alone
-
-list_all-same : (p q : ℕ → Bool) (a n : ℕ) → ((i : ℕ) → i < a + n → p i ≡ q i) → list_all p (range_with_len a n) ≡ list_all q (range_with_len a n)
-list_all-same p q a zero same = refl
-list_all-same p q a (suc n) same =
-    ap (λ b. b && list_all p (range_with_len (a + 1) n)) (same a (omega arith))
-    ∙ ap (λ b. q a && b) (list_all-same p q (a + 1) n (λ i lt. same i (omega arith)))
-
-is_clear_run-same : (p q : ℕ → Bool) (n first : ℕ) → ((i : ℕ) → i < 32 → p i ≡ q i) → is_clear_run p n first ≡ is_clear_run q n first
-is_clear_run-same p q n first same = ⊎_elim
-    (λ t. let within = leb-true (first + n) 32 t in ap (λ b. nat_le (first + n) 32 && b) (list_all-same (λ i. not (p i)) (λ i. not (q i)) first n (λ i lt. ap not (same i (omega arith)))))
-    (λ f. and_left _ _ f ∙ sym (and_left _ _ f))
-    (cases_Bool (nat_le (first + n) 32))
-
-find-same : {X : Type 0} (p q : X → Bool) (xs : List X) → ((x : X) → p x ≡ q x) → find p xs ≡ find q xs
-find-same p q [] same = refl
-find-same p q (x ∷ xs) same = ap (λ b. cond b (Some x) (find p xs)) (same x) ∙ ap (λ o. cond (q x) (Some x) o) (find-same p q xs same)
-
-pub fit_of-same : (p q : ℕ → Bool) (n start : ℕ) → ((i : ℕ) → i < 32 → p i ≡ q i) → fit_of p n start ≡ fit_of q n start
-fit_of-same p q n start same = find-same (is_clear_run p n) (is_clear_run q n) (cyclic 32 start) (λ first. is_clear_run-same p q n first same)
-
 -- ---- one more move
 
 is_at-true : (zone version : ℕ) (m : ZoneMove) → m.move.zone ≡ zone → m.move.version ≡ version → is_at zone version m ≡ true
@@ -123,7 +95,7 @@ owner-stable moves m zone bit u next le = owner-same moves m zone bit u (λ v lo
 
 -- no move has the next version yet
 not_yet : (number zones : ℕ) (moves : List ZoneMove) (zone : ℕ) → AllByRecursion (IsOwnMove number zones moves) moves → AllByRecursion (λ x. is_at zone (suc (last_version moves zone)) x ≡ false) moves
-not_yet number zones moves zone own = all_map (IsOwnMove number zones moves) (λ x. is_at zone (suc (last_version moves zone)) x ≡ false) moves
+not_yet number zones moves zone own = all-weaker (IsOwnMove number zones moves) (λ x. is_at zone (suc (last_version moves zone)) x ≡ false) moves
     (λ x (mine : IsOwnMove number zones moves x). ⊎_elim
     (λ z. let same = ap (last_version moves) z in let low = mine.version in is_at-other_version zone _ x (λ e. omega arith))
     (λ z. is_at-other_zone zone _ x z)
@@ -168,7 +140,7 @@ pub order-push : (number zones : ℕ) (moves : List ZoneMove) (m : ZoneMove) →
 order-push number zones moves m own order next lawful = record {
   once = once-push number zones moves m own order next;
   lawful = all_push (IsLawfulMove (moves ++ m ∷ [])) moves m
-      (all_both (IsOwnMove number zones moves) (IsLawfulMove moves) (IsLawfulMove (moves ++ m ∷ [])) moves
+      (all-both (IsOwnMove number zones moves) (IsLawfulMove moves) (IsLawfulMove (moves ++ m ∷ [])) moves
       (λ x (mine : IsOwnMove number zones moves x) fine. let low = mine.version in lawful-stable moves m x next (omega arith) fine)
       own order.lawful)
       (lawful-stable moves m m next (omega arith) lawful);

@@ -18,12 +18,14 @@ impl Model for WordList {
 }
 
 impl WordList {
+    /// These words, in their order.
     pub fn new(list: Vec<u32>) -> WordList
         ensures { result ≡ list.items }
     {
         WordList { words: list }
     }
 
+    /// How many words there are.
     pub fn len(&self) -> u64
         ensures { result ≡ length self.now }
     {

@@ -145,7 +145,7 @@ ok_or_err ok err = cc
 
 -- an accepted script isn't refused
 not-refused : (input : Input) (refusal : Refusal) (text : List ℕ) (script : ScriptText) → IsCause input refusal → IsSome (head_of_words input.words) → input.left ≡ Some text → length text ≤ 16777216 → script_of text ≡ Ok script → ⊥
-not-refused input (Words number at) text script (missing, nine, first) given left short says = both_words (head_of_words input.words) given missing
+not-refused input (Words number at) text script (missing, nine, first, unread, none) given left short says = both_words (head_of_words input.words) given missing
 not-refused input TooLong text script (words, none, long) given left short says =
     let above : 16777216 < length text = some_of (λ bytes. 16777216 < length bytes) input.left text left long in omega (arith, above, short)
 not-refused input (Line line number) text script (words, eleven, (other, read, refused)) given left short says =
@@ -164,7 +164,7 @@ complete_answer input output status.WriteFault (failed, front) text script given
 pub words_answer : (input : Input) (output : Output) (s : Status) → IsAnswer input output s → head_of_words input.words ≡ None → IsWordsAnswer s
 words_answer input output status.Finished (head, script, accepted, writes) missing = some_or_none accepted.words missing
 words_answer input output status.Faulted (head, script, accepted, writes) missing = some_or_none accepted.words missing
-words_answer input output (status.Refused (Words number at)) ((cause, nine, first), line) missing = ap (λ n. Words n at) nine ∙ ap (λ a. Words 9 a) first
+words_answer input output (status.Refused (Words number at)) ((cause, nine, first, unread, none), line) missing = ap (λ n. Words n at) nine ∙ ap (λ a. Words 9 a) first
 words_answer input output (status.Refused TooLong) ((given, none, long), line) missing = absurd (both_words (head_of_words input.words) given missing)
 words_answer input output (status.Refused (Line number refusal)) ((given, eleven, text), line) missing = absurd (both_words (head_of_words input.words) given missing)
 words_answer input output status.Memory answer missing = tt

@@ -43,9 +43,10 @@ pub record IsAccepted (input : Input) (head : Head) (script : ScriptText) : Type
   pub read : IsRead input text
   pub says : script_of text ≡ Ok script
 
--- why words or a text are refused
+-- why words or a text are refused; for the words nothing is read
 abbrev pub IsCause : Input → Refusal → Type 0
-IsCause input (Words number at) = (head_of_words input.words ≡ None) × (number ≡ 9) × (at ≡ 0)
+IsCause input (Words number at) =
+    (head_of_words input.words ≡ None) × (number ≡ 9) × (at ≡ 0) × (input.left_after ≡ input.left) × (input.failed_after ≡ input.failed)
 IsCause input TooLong = IsSome (head_of_words input.words) × (input.failed_after ≡ input.failed) × IfSome input.left (λ bytes. 16777216 < length bytes)
 IsCause input (Line line number) =
     IsSome (head_of_words input.words) × (number ≡ 11) × ((text : List ℕ) × IsRead input text × (script_of text ≡ Err line))

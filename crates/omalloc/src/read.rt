@@ -17,6 +17,7 @@ pub enum TextStop {
     /// The first line that is not of the accepted form, from 1 on. Where `end` is missing it is the
     /// one after the last.
     Refused { line: u32 },
+    /// No memory was there.
     Memory,
 }
 

@@ -18,7 +18,9 @@ use std::sync::Wait;
 /// A pool after a script, and the outcomes of the script's commands.
 #[derive(Drop)]
 pub struct Run {
+    /// The pool after the script.
     pub pool: Pool,
+    /// What became of the commands that were done.
     pub transcript: Transcript,
     /// A command met a fault.
     pub faulted: bool,

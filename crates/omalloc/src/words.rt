@@ -19,6 +19,7 @@ use std::alloc::{AllocError, Global};
 pub enum WordsStop {
     /// They ask for what isn't built, or are of no accepted form.
     NotBuilt,
+    /// No memory was there.
     Memory,
 }
 
