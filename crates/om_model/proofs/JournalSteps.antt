@@ -1,5 +1,5 @@
 -- A journal followed entry by entry: what is left of it after each.
-use Rattle.std.proofs.Common.{◌≡◌, ℕ, zero, suc, ◌+◌, List, [], ◌∷◌, ◌++◌, drop, take, Some, sym, ap, ◌∙◌, subst, arith, ◌↔◌}
+use Rattle.std.proofs.Common.{◌≡◌, ℕ, zero, suc, ◌+◌, List, [], ◌∷◌, ◌++◌, drop, Some, sym, ap, ◌∙◌, subst, arith, ◌↔◌}
 use Rattle.std.specs.List.{slice_get, range_with_len}
 use Rattle.om_model.specs.Rules.{Rules}
 use Rattle.om_model.specs.PoolState.{State}
@@ -12,13 +12,6 @@ drop-at (y ∷ ys) zero x found = let same : y ≡ x = cc in ap (λ z. z ∷ ys)
 drop-at (y ∷ ys) (suc i) x found =
     let next : suc i + 1 ≡ suc (i + 1) = omega arith in
     rw next (drop-at ys i x found)
-
-pub take-at : {X : Type 0} (xs : List X) (i : ℕ) (x : X) → slice_get xs i ≡ Some x → take (i + 1) xs ≡ take i xs ++ x ∷ []
-take-at [] i x found = cc
-take-at (y ∷ ys) zero x found = let same : y ≡ x = cc in ap (λ z. z ∷ []) same
-take-at (y ∷ ys) (suc i) x found =
-    let next : suc i + 1 ≡ suc (i + 1) = omega arith in
-    rw next (ap (λ zs. y ∷ zs) (take-at ys i x found))
 
 -- the entry is lawful, so the rest decides, from the state after it
 rest-decides : (rules : Rules) (state next : State) (entry : Entry) (rest : List Entry) → IsLawfulEntry rules state entry → next ≡ after rules state entry → IsLawfulFrom rules state (entry ∷ rest) ↔ IsLawfulFrom rules next rest

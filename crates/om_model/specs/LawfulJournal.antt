@@ -1,5 +1,6 @@
 -- A lawful journal: folded from the opening state, each call has exactly the reply, the words and the
--- release that its step has, and the zones answered as they may. A phase changes nothing.
+-- release that its step has, and the zones answered as they may. Phases are numbered 1, 2, .., and change
+-- nothing.
 use Rattle.std.specs.Prelude.{◌≡◌, ℕ, ◌+◌, ◌/◌, ◌%◌, ◌<◌, ◌≤◌, List, [], ◌∷◌, length, map, Contains, Option, Some, None, IfSome, IsSomeAnd, ◌==◌, if◌then◌else◌}
 use Rattle.std.specs.List.{flat_map, range_with_len}
 use Rattle.std.specs.Option.{option_map, option_and_then}

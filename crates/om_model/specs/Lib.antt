@@ -7,16 +7,22 @@ pub mod FreeLaws
 pub mod Picks
 pub mod PlaceLaws
 pub mod PoolState
+pub mod Ranges
 pub mod Room
 pub mod Rules
+pub mod SlowCalls
 pub mod SlowJournals
+pub mod SlowMoves
 pub mod SlowScripts
 pub mod SlowStates
+pub mod TextParts
 pub mod SoundStates
 pub mod StepLaws
 pub mod Steps
 pub mod JournalLaws
+pub mod JournalRanges
 pub mod LawfulJournal
+pub mod ListLaws
 pub mod Looks
 pub mod ScriptCalls
 pub mod ScriptRun
@@ -24,3 +30,4 @@ pub mod WellFormed
 pub mod WellFormedLaws
 pub mod ZoneOrder
 pub mod OutputText
+pub mod OutputRanges

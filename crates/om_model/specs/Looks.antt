@@ -1,13 +1,15 @@
 -- Looks. A look of a claim is at a version that the zone has had, at which the pages that it seeks didn't
 -- fit. In one journal the versions named for a zone never fall, and a move's is above all that were named
 -- for the zone before it.
-use Rattle.std.specs.Prelude.{◌≡◌, ℕ, ◌%◌, ◌<◌, ◌≤◌, Bool, true, false, List, [], ◌∷◌, ◌++◌, map, None}
+use Rattle.std.specs.Prelude.{◌≡◌, ℕ, ◌%◌, ◌<◌, ◌≤◌, true, false, List, [], ◌∷◌, ◌++◌, map, None}
 use Rattle.std.specs.List.{AllByRecursion, flat_map}
 use Rattle.std.specs.Option.{is_some, option_to_list}
 use Rattle.om_geom.specs.Fit.{fit_of}
-use Rattle.om_model.specs.ZoneOrder.{ZoneMove, last_version, owner, searched_by}
+use Rattle.om_model.specs.ZoneOrder.{last_version, owner, searched_by}
 use Rattle.om_model.specs.declared.looks.Look.{Look}
+use Rattle.om_model.specs.declared.looks.Named.{Named}
 use Rattle.om_model.specs.declared.entry.Move.{Move}
+use Rattle.om_model.specs.declared.entry.ZoneMove.{ZoneMove}
 use Rattle.om_model.specs.declared.entry.Entry.{Entry}
 use Rattle.om_model.specs.declared.entry.Entry.TheVariants.{Call, Phase}
 use Rattle.om_model.specs.declared.operation.Op.{Op}
@@ -25,12 +27,6 @@ sought op = 1
 abbrev pub HasTrueLooks : List ZoneMove → Entry → Type 0
 HasTrueLooks moves (Call entry) = AllByRecursion (IsTrueLook moves (sought entry.op) (searched_by entry)) entry.looks.items
 HasTrueLooks moves (Phase number) = Unit {0}
-
--- a version that an entry names for a zone, by a look or by a move
-pub record Named : Type 0 where
-  pub zone : ℕ
-  pub version : ℕ
-  pub moves : Bool
 
 abbrev pub named_by_look : Look → Named
 named_by_look look = record { zone = look.zone; version = look.version; moves = false }

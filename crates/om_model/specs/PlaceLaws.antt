@@ -39,9 +39,6 @@ placed-page zones held place on = ap page_at on.address_is ∙ place-page on.pag
 
 -- ---- no shared byte
 
-before-page : (page other index stride second stride_other : ℕ) → index * stride + stride ≤ 4096 → page < other → address_of page + index * stride + stride ≤ address_of other + second * stride_other
-before-page page other index stride second stride_other within lt = omega arith
-
 before-index : (page stride index second : ℕ) → index < second → address_of page + index * stride + stride ≤ address_of page + second * stride
 before-index page stride index second lt = omega (arith, mul-le-mul_right stride lt)
 

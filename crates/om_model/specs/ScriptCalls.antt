@@ -6,13 +6,15 @@ use Rattle.std.specs.List.{AllByRecursion}
 use Rattle.std.specs.Prelude.{None, unwrap_or}
 use Rattle.om_model.specs.declared.operation.Op.{Op}
 use Rattle.om_model.specs.declared.operation.Op.TheVariants as op
+use Rattle.om_model.specs.declared.operation.Call.{Call}
 use Rattle.om_model.specs.declared.reply.Reply.{Reply}
 use Rattle.om_model.specs.declared.reply.Reply.TheVariants.{Miss}
 use Rattle.om_model.specs.declared.entry.Entry.{Entry}
 use Rattle.om_model.specs.declared.entry.Entry.TheVariants as entry
+use Rattle.om_model.specs.declared.entry.Asked.{Asked}
 use Rattle.om_model.specs.declared.command.Command.{Command}
 use Rattle.om_model.specs.declared.reply.Outcome.{Outcome}
-use Rattle.om_model.specs.ScriptRun.{Call, script_run, IsEnded}
+use Rattle.om_model.specs.ScriptRun.{script_run, IsEnded}
 use Rattle.om_model.specs.LawfulJournal.{phase_numbers}
 
 -- the replies of the pools that a call with an address asks: all but the last are misses, and a last miss
@@ -27,13 +29,6 @@ abbrev pub IsAnswered : ℕ → Op → List Reply → Type 0
 IsAnswered pools (op.Malloc size site) replies = length replies ≡ 1
 IsAnswered pools (op.Calloc count size site) replies = length replies ≡ 1
 IsAnswered pools other replies = IsSearch pools replies
-
--- what an entry says of its call and of the answer
-pub record Asked : Type 0 where
-  pub command : ℕ
-  pub hop : ℕ
-  pub op : Op
-  pub reply : Reply
 
 -- the entries of a call in the pool
 abbrev pub asked_of : ℕ → ℕ → ℕ → Call → ℕ × Reply → List Asked
@@ -66,7 +61,7 @@ pub record OnlyCallers (scripts phases : ℕ) (entries : List Entry) : Type 0 wh
 abbrev pub last_reply : List Reply → Reply
 last_reply replies = unwrap_or (last_or None replies) Miss
 
--- A script with so many variables ran so: by the last replies to its calls it has these outcomes and makes
+-- A script with so many variables has run: by the last replies to its calls it has these outcomes and makes
 -- no other calls, it went to its end, and its calls stand in the journals.
 pub record IsScriptRun (pools caller variables : ℕ) (commands : List Command) (journals : List (List Entry)) (outcomes : List Outcome) : Type 0 where
   pub answered : List (Call × List Reply)

@@ -4,6 +4,7 @@ use Rattle.std.specs.Prelude.{◌≡◌, ℕ, ◌+◌, Bool, true, false, ◌==�
 use Rattle.std.specs.List.{list_any}
 use Rattle.om_model.specs.declared.operation.Op.{Op}
 use Rattle.om_model.specs.declared.operation.Op.TheVariants as op
+use Rattle.om_model.specs.declared.operation.Call.{Call}
 use Rattle.om_model.specs.declared.command.Command.{Command}
 use Rattle.om_model.specs.declared.command.Command.TheVariants as command
 use Rattle.om_model.specs.declared.reply.Reply.{Reply}
@@ -47,11 +48,6 @@ given other = 0
 abbrev pub assigned : List ℕ → Command → Outcome → List ℕ
 assigned values (command.Malloc var size site) o = slice_set values var (given o)
 assigned values (command.Free var) o = values
-
--- a call that a script makes, by the number of its command
-pub record Call : Type 0 where
-  pub command : ℕ
-  pub op : Op
 
 -- the calls that a script makes, and its transcript
 pub record Ran : Type 0 where

@@ -1,4 +1,5 @@
--- Well-formed states: places in use share no byte, lie on held pages, and no page has places of two classes.
+-- Well-formed states: there are 16 slots, and every live block is a chunk; places in use share no byte, lie on
+-- held pages, and no page has places of two classes.
 use Rattle.std.specs.Prelude.{◌≡◌, ℕ, true, List, [], ◌∷◌, length, IsSome}
 use Rattle.std.specs.List.{AllByRecursion}
 use Rattle.om_geom.specs.Addresses.{page_at, Covers, SharesByte}

@@ -1,4 +1,4 @@
-/// An entry of the board: a number put into a cell, a number taken out of one, or the begin of a
+/// An entry of the board: a number put into a cell, a number taken out of one, or the beginning of a
 /// phase.
 #[derive(Clone, Copy, Debug, PartialEq, Eq)]
 pub enum BoardEntry {

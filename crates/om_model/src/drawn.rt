@@ -1,5 +1,8 @@
 ghost use Rattle.std.specs.Prelude.{◌≡◌, ◌<◌, ◌≤◌, ◌==◌, [], ◌∷◌, ◌++◌, length, slice_get};
+ghost use Rattle.std.specs.List.{AllByRecursion};
+ghost use Rattle.om_model.specs.Ranges.{IsU32};
 
+use crate::ranges::words_fit;
 use std::marker::Model;
 
 /// The words that one call drew, at most 4.
@@ -28,6 +31,24 @@ impl Drawn {
             words: [0; 4],
             len: 0,
         }
+    }
+
+    /// One word.
+    pub fn one(word: u32) -> Drawn
+        ensures { result ≡ word ∷ [] }
+    {
+        let mut words = Drawn::empty();
+        words.push(word);
+        words
+    }
+
+    /// Two words, in this order.
+    pub fn two(first: u32, second: u32) -> Drawn
+        ensures { result ≡ first ∷ second ∷ [] }
+    {
+        let mut words = Drawn::one(first);
+        words.push(second);
+        words
     }
 
     /// Adds the next word.
@@ -60,6 +81,15 @@ impl Drawn {
         ensures { slice_get self.now i ≡ Some result }
     {
         self.words[i as usize]
+    }
+
+    /// A law of the type: there are at most 4 words, and each has 32 bits.
+    pub fn fits(&self)
+        ensures few { length self.now ≤ 4 }
+        ensures words { AllByRecursion IsU32 self.now }
+    {
+        let _few = self.len();
+        words_fit(self.as_slice());
     }
 
     pub(crate) fn as_slice(&self) -> &[u32]

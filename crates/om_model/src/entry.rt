@@ -13,6 +13,16 @@ pub struct Move {
     pub count: u32,
 }
 
+/// A move, the pool that made it, and the word by which a claim searched.
+#[derive(Clone, Copy, Debug, PartialEq, Eq)]
+pub struct ZoneMove {
+    pub pool: u32,
+    /// Whether it is a claim. Else it is a release, and its word is 0.
+    pub claims: bool,
+    pub made: Move,
+    pub word: u32,
+}
+
 /// One call on a pool: who made it, what was asked and answered, the words that were drawn, and
 /// what the zones answered.
 #[derive(Drop)]
@@ -29,7 +39,16 @@ pub struct CallEntry {
     pub release: Option<Move>,
 }
 
-/// An entry of a pool's journal: a call, or the begin of a phase.
+/// What an entry says of its call and of the answer.
+#[derive(Clone, Copy, Debug, PartialEq, Eq)]
+pub struct Asked {
+    pub command: u32,
+    pub hop: u64,
+    pub op: Op,
+    pub reply: Reply,
+}
+
+/// An entry of a pool's journal: a call, or the beginning of a phase.
 #[derive(Drop)]
 pub enum Entry {
     Call(CallEntry),

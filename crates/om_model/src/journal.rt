@@ -1,6 +1,8 @@
 ghost use Rattle.std.specs.Prelude.{◌≡◌, ◌+◌, ◌-◌, ◌^◌, ◌<◌, ◌≤◌, ◌==◌, [], ◌∷◌, ◌++◌, length, Some, slice_get, OnOk};
+ghost use Rattle.om_model.specs.JournalRanges.{FitsJournal};
 
 use crate::entry::Entry;
+use crate::ranges::entry_fits;
 use std::alloc::{AllocError, Global};
 use std::marker::Model;
 
@@ -13,12 +15,13 @@ pub struct Journal {
 impl Model for Journal {
     ghost use Rattle.std.specs.Prelude.{◌-◌, ◌^◌, ◌<◌, vec_len, vec_capacity};
     ghost use Rattle.om_model.specs.Entries.{Entries};
+    ghost use Rattle.om_model.specs.JournalRanges.{FitsJournal};
 
     ghost Value = { Entries };
 
     ghost view = { λ j. record { items = j.entries.items; spare = vec_capacity j.entries - vec_len j.entries } };
 
-    ghost invariant = { λ j. vec_len j.entries < 2 ^ 32 };
+    ghost invariant = { λ j. (vec_len j.entries < 2 ^ 32) × FitsJournal j.entries.items };
 }
 
 impl Journal {
@@ -48,6 +51,7 @@ impl Journal {
         ensures items { self.new.items ≡ self.old.items ++ entry ∷ [] }
         ensures spare { self.old.spare ≤ self.new.spare + 1 }
     {
+        entry_fits(&entry);
         match self.entries.push(entry) {
             Ok(()) => {}
             Err(_) => unreachable!(),
@@ -66,6 +70,13 @@ impl Journal {
         ensures { result ≡ (length self.now.items == 0) }
     {
         self.entries.is_empty()
+    }
+
+    /// A law of the type: every number in it is one that its type holds, and no call drew more than 4 words.
+    pub fn fits(&self)
+        ensures { FitsJournal self.now.items }
+    {
+        let _entries = &self.entries;
     }
 
     /// Entry `i`, from 0.

@@ -1,5 +1,8 @@
 ghost use Rattle.std.specs.Prelude.{◌≡◌, ◌+◌, ◌-◌, ◌^◌, ◌<◌, ◌≤◌, ◌==◌, [], ◌∷◌, ◌++◌, length, Some, slice_get, IfOk};
+ghost use Rattle.std.specs.List.{AllByRecursion};
+ghost use Rattle.om_model.specs.Ranges.{FitsLook};
 
+use crate::ranges::look_fits;
 use std::alloc::{AllocError, Global};
 use std::marker::Model;
 
@@ -10,6 +13,15 @@ pub struct Look {
     pub version: u32,
 }
 
+/// A version that an entry names for a zone, by a look or by a move.
+#[derive(Clone, Copy, Debug, PartialEq, Eq)]
+pub struct Named {
+    pub zone: u32,
+    pub version: u32,
+    /// Whether a move names it.
+    pub moves: bool,
+}
+
 /// The looks of one call, in order.
 #[derive(Drop)]
 pub struct LookList {
@@ -18,13 +30,15 @@ pub struct LookList {
 
 impl Model for LookList {
     ghost use Rattle.std.specs.Prelude.{◌-◌, ◌^◌, ◌<◌, vec_len, vec_capacity};
+    ghost use Rattle.std.specs.List.{AllByRecursion};
+    ghost use Rattle.om_model.specs.Ranges.{FitsLook};
     ghost use Rattle.om_model.specs.Room.{Looks};
 
     ghost Value = { Looks };
 
     ghost view = { λ l. record { items = l.looks.items; spare = vec_capacity l.looks - vec_len l.looks } };
 
-    ghost invariant = { λ l. vec_len l.looks < 2 ^ 32 };
+    ghost invariant = { λ l. (vec_len l.looks < 2 ^ 32) × AllByRecursion FitsLook l.looks.items };
 }
 
 impl LookList {
@@ -54,6 +68,7 @@ impl LookList {
         ensures items { self.new.items ≡ self.old.items ++ look ∷ [] }
         ensures spare { self.old.spare ≤ self.new.spare + 1 }
     {
+        look_fits(look);
         match self.looks.push(look) {
             Ok(()) => {}
             Err(_) => unreachable!(),
@@ -80,6 +95,13 @@ impl LookList {
         ensures { slice_get self.now.items i ≡ Some result }
     {
         self.looks[i as usize]
+    }
+
+    /// A law of the type: each look names a zone and a version of 32 bits.
+    pub fn fits(&self)
+        ensures { AllByRecursion FitsLook self.now.items }
+    {
+        let _looks = &self.looks;
     }
 
     pub(crate) fn as_slice(&self) -> &[Look]

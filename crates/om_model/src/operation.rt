@@ -42,3 +42,10 @@ pub enum Op {
         byte: u8,
     },
 }
+
+/// A call that a script makes, by the number of its command from 1 on.
+#[derive(Clone, Copy, Debug, PartialEq, Eq)]
+pub struct Call {
+    pub command: u32,
+    pub op: Op,
+}

@@ -146,6 +146,22 @@ fn no_free_page_is_kept(rt: HostRuntime) -> Result<(), Fail> {
     Ok(())
 }
 
+// A block that is live twice shares its bytes, and one on a page that isn't held lies nowhere.
+#[test]
+fn states_are_judged(rt: HostRuntime) -> Result<(), Fail> {
+    let mut state = opened(rt.alloc(), Opts::start(), vec![in rt.alloc(); 0]?)?;
+    let _given = state.malloc(100, 0, claim(1))?;
+    assert!(rt; state.is_well_formed()?);
+    let live = Vec::from_slice(rt.alloc(), &state.live)?;
+    state.live.extend_from_slice(&live)?;
+    assert!(rt; !state.is_well_formed()?);
+    state.live = live;
+    assert!(rt; state.is_well_formed()?);
+    state.held = Vec::new(rt.alloc());
+    assert!(rt; !state.is_well_formed()?);
+    Ok(())
+}
+
 // The first free takes slot 1 and the second slot 0, which doesn't hold the place.
 #[test]
 fn another_slot_holds_the_place(rt: HostRuntime) -> Result<(), Fail> {
@@ -208,7 +224,7 @@ fn a_script_makes_calls(rt: HostRuntime) -> Result<(), Fail> {
     ];
     assert_eq!(rt; ran.outcomes.as_slice(), outcomes.as_slice());
     assert_eq!(rt; ran.calls.len(), 3);
-    let freed = slow::Call {
+    let freed = Call {
         command: 4,
         op: Op::Free { addr: 0x10000 },
     };

@@ -1,5 +1,8 @@
 ghost use Rattle.std.specs.Prelude.{◌≡◌, ◌-◌, ◌^◌, ◌<◌, ◌==◌, [], ◌∷◌, ◌++◌, length, Some, slice_get, OnOk, OnErr};
+ghost use Rattle.std.specs.List.{AllByRecursion};
+ghost use Rattle.om_model.specs.Ranges.{FitsOutcome};
 
+use crate::ranges::outcome_fits;
 use crate::reply::Outcome;
 use std::alloc::{AllocError, Global};
 use std::marker::Model;
@@ -12,13 +15,15 @@ pub struct Transcript {
 
 impl Model for Transcript {
     ghost use Rattle.std.specs.Prelude.{List, ◌^◌, ◌<◌, vec_len};
+    ghost use Rattle.std.specs.List.{AllByRecursion};
+    ghost use Rattle.om_model.specs.Ranges.{FitsOutcome};
     ghost use Rattle.om_model.specs.declared.reply.Outcome.{Outcome};
 
     ghost Value = { List Outcome };
 
     ghost view = { λ t. t.outcomes.items };
 
-    ghost invariant = { λ t. vec_len t.outcomes < 2 ^ 32 };
+    ghost invariant = { λ t. (vec_len t.outcomes < 2 ^ 32) × AllByRecursion FitsOutcome t.outcomes.items };
 }
 
 impl Transcript {
@@ -37,6 +42,7 @@ impl Transcript {
         ensures ok { OnOk result (self.new ≡ self.old ++ outcome ∷ []) }
         ensures err { OnErr result (self.new ≡ self.old) }
     {
+        outcome_fits(outcome);
         self.outcomes.push(outcome)?;
         Ok(())
     }
@@ -53,6 +59,13 @@ impl Transcript {
         ensures { result ≡ (length self.now == 0) }
     {
         self.outcomes.is_empty()
+    }
+
+    /// A law of the type: every number in it is one that its type holds.
+    pub fn fits(&self)
+        ensures { AllByRecursion FitsOutcome self.now }
+    {
+        let _outcomes = &self.outcomes;
     }
 
     /// The outcome of command `i + 1`.

@@ -14,7 +14,8 @@ use Rattle.om_model.specs.Picks.{own_page}
 use Rattle.om_model.specs.Steps.{Step, Wish, run_of}
 use Rattle.om_model.specs.Allocation.{with_two_drawn, placed, placed_on_claim, null_or_fault}
 use Rattle.om_model.specs.LawfulJournal.{wish_of, step_of, answers_of, EndsSearch, MayAnswer}
-use Rattle.om_model.specs.ZoneOrder.{ZoneMove, searched_by, moves_of, moves_of_call}
+use Rattle.om_model.specs.declared.entry.ZoneMove.{ZoneMove}
+use Rattle.om_model.specs.ZoneOrder.{searched_by, moves_of, moves_of_call}
 use Rattle.om_model.specs.declared.entry.Move.{Move}
 use Rattle.om_model.specs.declared.entry.CallEntry.{CallEntry}
 use Rattle.om_model.specs.declared.entry.Entry.{Entry}
@@ -118,7 +119,7 @@ contains-held pages page there =
     list_any_at (nat_eq page) pages there.0 page there.1 (eq-eqb page _ (sym there.2))
 
 lone_move : (pool : ℕ) (entry : CallEntry) (move : Move) (word : ℕ) → entry.claim ≡ Some move → entry.release ≡ None → searched_by entry ≡ word
-    → moves_of_call pool entry ≡ record { pool = pool; claims = true; move = move; word = word } ∷ []
+    → moves_of_call pool entry ≡ record { pool = pool; claims = true; made = move; word = word } ∷ []
 lone_move pool entry move word claim release searched = rw (claim, release, searched) refl
 
 with_page-self : (page : ℕ) (held : List ℕ) → is_page_among (with_page page held) page ≡ true

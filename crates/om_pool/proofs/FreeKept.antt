@@ -14,7 +14,8 @@ use Rattle.om_geom.specs.Addresses.{page_at}
 use Rattle.om_model.specs.Steps.{Step}
 use Rattle.om_model.specs.Free.{unchanged, free, free_on, delay, evicted, kept_or_released, drawn_slot, slot_of}
 use Rattle.om_model.specs.LawfulJournal.{wish_of, step_of, answers_of, MayAnswer}
-use Rattle.om_model.specs.ZoneOrder.{ZoneMove, moves_of, moves_of_call}
+use Rattle.om_model.specs.declared.entry.ZoneMove.{ZoneMove}
+use Rattle.om_model.specs.ZoneOrder.{moves_of, moves_of_call}
 use Rattle.om_model.specs.declared.operation.Op.{Op}
 use Rattle.om_model.specs.declared.block.Block.{Block}
 use Rattle.om_model.specs.declared.block.Place.{Place}
@@ -54,12 +55,6 @@ freed-still rules state entries table entry address step kept does is none drawn
     (still-few rules.pool entry is.claim none) drawn formed
 
 -- ---- the cases
-
-pub free-missed : (rules : Rules) (state : State) (address : ℕ) → holds rules.zones state.held address ≡ false → free rules state address ≡ unchanged state reply.Miss
-free-missed rules state address missed = rw missed refl
-
-pub free-held : (rules : Rules) (state : State) (address : ℕ) → holds rules.zones state.held address ≡ true → free rules state address ≡ free_on rules state address (chunk_class (places rules state) (page_at address))
-free-held rules state address held = rw held refl
 
 -- the state after the place entered the slot
 abbrev pub put_off : Rules → State → ℕ → ℕ → State
@@ -199,7 +194,7 @@ fits-released rules state old new page move free released fits =
 
 -- ---- what is kept where a page is released
 
-released_moves : (pool : ℕ) (entry : CallEntry) (move : Move) → entry.claim ≡ None → entry.release ≡ Some move → moves_of_call pool entry ≡ record { pool = pool; claims = false; move = move; word = 0 } ∷ []
+released_moves : (pool : ℕ) (entry : CallEntry) (move : Move) → entry.claim ≡ None → entry.release ≡ Some move → moves_of_call pool entry ≡ record { pool = pool; claims = false; made = move; word = 0 } ∷ []
 released_moves pool entry move claim release = rw (claim, release) refl
 
 pub freed-released : (rules : Rules) (state : State) (entries : List Entry) (old new : ZoneTable) (entry : CallEntry) (address page : ℕ) (move : Move) (step : Step)

@@ -4,7 +4,8 @@ use Rattle.om_model.specs.Rules.{Rules}
 use Rattle.om_model.specs.PoolState.{State}
 use Rattle.om_model.specs.Steps.{Step}
 use Rattle.om_model.specs.LawfulJournal.{IsLawfulCall, MayAnswer, Agrees, wish_of, step_of, answers_of, next_of, after, state_of}
-use Rattle.om_model.specs.ZoneOrder.{ZoneMove, moves_of, moves_of_call}
+use Rattle.om_model.specs.declared.entry.ZoneMove.{ZoneMove}
+use Rattle.om_model.specs.ZoneOrder.{moves_of, moves_of_call}
 use Rattle.om_model.specs.JournalLaws.{state_of-push, IsLawful-push, moves_of-push}
 use Rattle.om_model.specs.declared.entry.CallEntry.{CallEntry}
 use Rattle.om_model.specs.declared.entry.Entry.{Entry}

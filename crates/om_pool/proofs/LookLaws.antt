@@ -4,9 +4,11 @@ use Rattle.std.proofs.Common.{◌≡◌, ℕ, ◌+◌, ◌/◌, ◌<◌, ◌≤�
 use Rattle.std.specs.List.{AllByRecursion, flat_map}
 use Rattle.std.proofs.lemmas.Bool.{false≢true}
 use Rattle.std.proofs.lemmas.List.Concat.{flat_map-append}
-use Rattle.om_model.specs.Looks.{IsTrueLook, sought, HasTrueLooks, Named, named_by_look, named_by_move, named_in, ComesAfter, Rises, AreLooks}
+use Rattle.om_model.specs.declared.looks.Named.{Named}
+use Rattle.om_model.specs.Looks.{IsTrueLook, sought, HasTrueLooks, named_by_look, named_by_move, named_in, ComesAfter, Rises, AreLooks}
 use Rattle.om_model.specs.JournalLaws.{moves_of-push}
-use Rattle.om_model.specs.ZoneOrder.{ZoneMove, last_version, moves_of, moves_of_call, searched_by}
+use Rattle.om_model.specs.declared.entry.ZoneMove.{ZoneMove}
+use Rattle.om_model.specs.ZoneOrder.{last_version, moves_of, moves_of_call, searched_by}
 use Rattle.om_model.specs.declared.looks.Look.{Look}
 use Rattle.om_model.specs.declared.entry.Move.{Move}
 use Rattle.om_model.specs.declared.entry.CallEntry.{CallEntry}
@@ -60,7 +62,7 @@ record Grows (moves later : List ZoneMove) : Type 0 where
 Grows-same : (moves : List ZoneMove) → Grows moves moves
 Grows-same moves = record { looks = λ n word look still. still; versions = λ zone. omega arith }
 
-Grows-push : (moves : List ZoneMove) (m : ZoneMove) → m.move.version ≡ last_version moves m.move.zone + 1 → Grows moves (moves ++ m ∷ [])
+Grows-push : (moves : List ZoneMove) (m : ZoneMove) → m.made.version ≡ last_version moves m.made.zone + 1 → Grows moves (moves ++ m ∷ [])
 Grows-push moves m next = record { looks = λ n word look. IsTrueLook-push moves m n word look next; versions = last_version-grows moves m }
 
 true-later : (moves later : List ZoneMove) → Grows moves later → (entry : Entry) → HasTrueLooks moves entry → HasTrueLooks later entry
@@ -151,8 +153,8 @@ looked-unmoved pool entries entry looked claim release taken looks last =
     no_names = rw (claim, release, taken) refl
 
 -- a call that looks, and then makes a move
-looked-moved : (pool : ℕ) (entries : List Entry) (entry : CallEntry) (m : ZoneMove) → IsLooked pool entries → m.move.version ≡ last_version (moves_of pool entries) m.move.zone + 1
-    → moves_of_call pool entry ≡ m ∷ [] → named_in (Call entry) ≡ map named_by_look entry.looks.items ++ named_by_move m.move ∷ []
+looked-moved : (pool : ℕ) (entries : List Entry) (entry : CallEntry) (m : ZoneMove) → IsLooked pool entries → m.made.version ≡ last_version (moves_of pool entries) m.made.zone + 1
+    → moves_of_call pool entry ≡ m ∷ [] → named_in (Call entry) ≡ map named_by_look entry.looks.items ++ named_by_move m.made ∷ []
     → HasTrueLooks (moves_of pool entries) (Call entry) → AllByRecursion (IsLast (moves_of pool entries)) entry.looks.items
     → IsLooked pool (entries ++ Call entry ∷ [])
 looked-moved pool entries entry m looked next moves_are names_are looks last =
@@ -164,7 +166,7 @@ looked-moved pool entries entry m looked next moves_are names_are looks last =
     (record {
       next = all_push (IsNext moves) names moved last_next above;
       rises = Rises-append moves names (moved ∷ []) (Rises-last moves names last_had last_next) last_had (tt, tt) (above, tt);
-      had = all_push (IsHad later) names moved (had-later moves later grows names last_had) (let more = last_version-same moves m m.move.zone refl in omega arith);
+      had = all_push (IsHad later) names moved (had-later moves later grows names last_had) (let more = last_version-same moves m m.made.zone refl in omega arith);
     })
   where
     moves : List ZoneMove
@@ -177,7 +179,7 @@ looked-moved pool entries entry m looked next moves_are names_are looks last =
     names = map named_by_look entry.looks.items
 
     moved : Named
-    moved = named_by_move m.move
+    moved = named_by_move m.made
 
     grows : Grows moves later
     grows = Grows-push moves m next
@@ -227,7 +229,7 @@ pub looked-claim : (pool : ℕ) (entries : List Entry) (entry : CallEntry) (old 
     → entry.claim ≡ Some move → entry.release ≡ None → entry.taken ≡ None
     → IsLooked pool (entries ++ Call entry ∷ [])
 looked-claim pool entries entry old new word move looked stands some searched passed claimed claim release taken =
-    looked-moved pool entries entry (record { pool = pool; claims = true; move = move; word = word }) looked
+    looked-moved pool entries entry (record { pool = pool; claims = true; made = move; word = word }) looked
     (claim-next pool (moves_of pool entries) old new 1 word (length entry.looks.items) move stands claimed)
     (rw (claim, release, searched) refl)
     (rw (claim, release, taken) refl)
@@ -240,7 +242,7 @@ pub looked-release : (pool : ℕ) (entries : List Entry) (entry : CallEntry) (ol
     → entry.claim ≡ None → entry.release ≡ Some move → entry.taken ≡ None → entry.looks.items ≡ []
     → IsLooked pool (entries ++ Call entry ∷ [])
 looked-release pool entries entry old new page move looked stands inside released claim release taken no_looks =
-    looked-moved pool entries entry (record { pool = pool; claims = false; move = move; word = 0 }) looked
+    looked-moved pool entries entry (record { pool = pool; claims = false; made = move; word = 0 }) looked
     (release-next pool (moves_of pool entries) old new page 1 move stands released inside)
     (rw (claim, release) refl)
     (rw (claim, release, taken) refl)

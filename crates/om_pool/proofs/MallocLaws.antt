@@ -20,7 +20,8 @@ use Rattle.om_model.specs.declared.block.Place.{Place}
 use Rattle.om_model.specs.declared.entry.Move.{Move}
 use Rattle.om_model.specs.declared.operation.Op.TheVariants.{Malloc}
 use Rattle.om_model.specs.LawfulJournal.{MayAnswer, Agrees}
-use Rattle.om_model.specs.ZoneOrder.{ZoneMove, moves_of, moves_of_call}
+use Rattle.om_model.specs.declared.entry.ZoneMove.{ZoneMove}
+use Rattle.om_model.specs.ZoneOrder.{moves_of, moves_of_call}
 use Rattle.om_model.specs.declared.reply.Reply.{Reply}
 use Rattle.om_model.specs.declared.entry.CallEntry.{CallEntry}
 use Rattle.om_model.specs.declared.entry.Entry.{Entry}

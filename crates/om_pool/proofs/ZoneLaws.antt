@@ -10,7 +10,8 @@ use Rattle.om_geom.specs.FitLaws.{HasClearRun, fit_of-some}
 use Rattle.om_model.specs.declared.entry.Move.{Move}
 use Rattle.om_model.specs.declared.looks.Look.{Look}
 use Rattle.om_model.specs.Looks.{IsTrueLook}
-use Rattle.om_model.specs.ZoneOrder.{ZoneMove, IsLawfulMove, is_at, last_version, owner, owner_after}
+use Rattle.om_model.specs.declared.entry.ZoneMove.{ZoneMove}
+use Rattle.om_model.specs.ZoneOrder.{IsLawfulMove, is_at, last_version, owner, owner_after}
 use Rattle.om_pool.specs.Zones.{ZoneTable, is_held, is_page_held, version_of, searched_in, look_of, CanMove, ArePassed, IsMoved, IsClaimed, IsReleased}
 use Rattle.om_pool.specs.ZoneStand.{IsOwnMove, Stands}
 use Rattle.std.proofs.Math.Bool.{or-false, and-true}
@@ -43,10 +44,10 @@ moved-held old new zone other bit moved ne = ap (λ bits. has_bit bits bit) (mov
 -- the move is the pool's next, and the table after it has what it leaves
 record IsNextMove (number : ℕ) (moves : List ZoneMove) (old new : ZoneTable) (m : ZoneMove) : Type 0 where
   by : m.pool ≡ number
-  zone : m.move.zone < length old.bits
-  version : m.move.version ≡ version_of old m.move.zone + 1
-  moved : IsMoved old new m.move.zone
-  held : (bit : ℕ) → bit < 32 → is_held new m.move.zone bit ≡ is_some (owner_after (Some m) bit (owner moves m.move.zone (last_version moves m.move.zone) bit))
+  zone : m.made.zone < length old.bits
+  version : m.made.version ≡ version_of old m.made.zone + 1
+  moved : IsMoved old new m.made.zone
+  held : (bit : ℕ) → bit < 32 → is_held new m.made.zone bit ≡ is_some (owner_after (Some m) bit (owner moves m.made.zone (last_version moves m.made.zone) bit))
   lawful : IsLawfulMove moves m
 
 Stands-push : (number : ℕ) (moves : List ZoneMove) (old new : ZoneTable) (m : ZoneMove) → Stands number moves old → IsNextMove number moves old new m → Stands number (moves ++ m ∷ []) new
@@ -54,35 +55,35 @@ Stands-push number moves old new m stands step = record {
   order = order-push number (length old.bits) moves m stands.own stands.order next step.lawful;
   own = subst (λ n. AllByRecursion (IsOwnMove number n (moves ++ m ∷ [])) (moves ++ m ∷ [])) (sym long) (all_push (IsOwnMove number (length old.bits) (moves ++ m ∷ [])) moves m
       (all-weaker (IsOwnMove number (length old.bits) moves) (IsOwnMove number (length old.bits) (moves ++ m ∷ [])) moves
-      (λ x (mine : IsOwnMove number (length old.bits) moves x). record { pool = mine.pool; zone = mine.zone; version = let low = mine.version in let grows = last_version-grows moves m x.move.zone in omega arith })
+      (λ x (mine : IsOwnMove number (length old.bits) moves x). record { pool = mine.pool; zone = mine.zone; version = let low = mine.version in let grows = last_version-grows moves m x.made.zone in omega arith })
       stands.own)
-      (record { pool = step.by; zone = step.zone; version = let more = last_version-same moves m m.move.zone refl in omega arith }));
-  zones = moved-lengths old new m.move.zone step.moved ∙ stands.zones ∙ sym long;
+      (record { pool = step.by; zone = step.zone; version = let more = last_version-same moves m m.made.zone refl in omega arith }));
+  zones = moved-lengths old new m.made.zone step.moved ∙ stands.zones ∙ sym long;
   versions = λ zone lt. ⊎_elim
-      (λ z. let P : ℕ → Type 0 = λ y. version_of new y ≡ last_version (moves ++ m ∷ []) y in subst P z (moved-version old new m.move.zone step.moved (rw stands.zones step.zone) ∙ sym step.version ∙ next ∙ sym (last_version-same moves m m.move.zone refl)))
-      (λ z. moved-versions old new m.move.zone zone step.moved (λ e. z (sym e)) ∙ stands.versions zone (inside zone lt) ∙ sym (last_version-other moves m zone z))
-      (cases_eq m.move.zone zone);
+      (λ z. let P : ℕ → Type 0 = λ y. version_of new y ≡ last_version (moves ++ m ∷ []) y in subst P z (moved-version old new m.made.zone step.moved (rw stands.zones step.zone) ∙ sym step.version ∙ next ∙ sym (last_version-same moves m m.made.zone refl)))
+      (λ z. moved-versions old new m.made.zone zone step.moved (λ e. z (sym e)) ∙ stands.versions zone (inside zone lt) ∙ sym (last_version-other moves m zone z))
+      (cases_eq m.made.zone zone);
   bits = λ zone bit lt low. ⊎_elim
       (λ z. let P : ℕ → Type 0 = λ y. is_held new y bit ≡ is_some (owner (moves ++ m ∷ []) y (last_version (moves ++ m ∷ []) y) bit) in subst P z (here bit low))
-      (λ z. moved-held old new m.move.zone zone bit step.moved (λ e. z (sym e)) ∙ stands.bits zone bit (inside zone lt) low
+      (λ z. moved-held old new m.made.zone zone bit step.moved (λ e. z (sym e)) ∙ stands.bits zone bit (inside zone lt) low
       ∙ ap is_some (sym (owner-stable moves m zone bit (last_version moves zone) next (omega arith)))
       ∙ ap (λ u. is_some (owner (moves ++ m ∷ []) zone u bit)) (sym (last_version-other moves m zone z)))
-      (cases_eq m.move.zone zone);
+      (cases_eq m.made.zone zone);
 }
   where
     long : length new.bits ≡ length old.bits
-    long = moved-zones old new m.move.zone step.moved
+    long = moved-zones old new m.made.zone step.moved
 
     inside : (zone : ℕ) → zone < length new.bits → zone < length old.bits
     inside zone lt = let same = long in omega arith
 
-    next : m.move.version ≡ last_version moves m.move.zone + 1
-    next = step.version ∙ ap (λ n. n + 1) (stands.versions m.move.zone step.zone)
+    next : m.made.version ≡ last_version moves m.made.zone + 1
+    next = step.version ∙ ap (λ n. n + 1) (stands.versions m.made.zone step.zone)
 
-    here : (bit : ℕ) → bit < 32 → is_held new m.move.zone bit ≡ is_some (owner (moves ++ m ∷ []) m.move.zone (last_version (moves ++ m ∷ []) m.move.zone) bit)
+    here : (bit : ℕ) → bit < 32 → is_held new m.made.zone bit ≡ is_some (owner (moves ++ m ∷ []) m.made.zone (last_version (moves ++ m ∷ []) m.made.zone) bit)
     here bit low = step.held bit low
         ∙ ap is_some (sym (owner-next number (length old.bits) moves m bit stands.own next))
-        ∙ ap (λ u. is_some (owner (moves ++ m ∷ []) m.move.zone u bit)) (sym (last_version-same moves m m.move.zone refl))
+        ∙ ap (λ u. is_some (owner (moves ++ m ∷ []) m.made.zone u bit)) (sym (last_version-same moves m m.made.zone refl))
 
 -- ---- no moves, a claim, a release
 
@@ -126,8 +127,8 @@ claim-within old new n word passed move claimed =
 pub claim-next : (number : ℕ) (moves : List ZoneMove) (old new : ZoneTable) (n word passed : ℕ) (move : Move) → Stands number moves old → IsClaimed old new n word passed move → move.version ≡ last_version moves move.zone + 1
 claim-next number moves old new n word passed move stands claimed = claimed.version ∙ ap (λ v. v + 1) (stands.versions move.zone (claim-zone old new n word passed move claimed))
 
-pub Stands-claim : (number : ℕ) (moves : List ZoneMove) (old new : ZoneTable) (n word passed : ℕ) (move : Move) → Stands number moves old → IsClaimed old new n word passed move → Stands number (moves ++ record { pool = number; claims = true; move = move; word = word } ∷ []) new
-Stands-claim number moves old new n word passed move stands claimed = Stands-push number moves old new (record { pool = number; claims = true; move = move; word = word }) stands (record {
+pub Stands-claim : (number : ℕ) (moves : List ZoneMove) (old new : ZoneTable) (n word passed : ℕ) (move : Move) → Stands number moves old → IsClaimed old new n word passed move → Stands number (moves ++ record { pool = number; claims = true; made = move; word = word } ∷ []) new
+Stands-claim number moves old new n word passed move stands claimed = Stands-push number moves old new (record { pool = number; claims = true; made = move; word = word }) stands (record {
   by = refl;
   zone = inside;
   version = claimed.version;
@@ -167,7 +168,7 @@ own-after false claims by number before same earlier held = earlier held
 
 own-after_move : (found : Option ZoneMove) (bit number : ℕ) (before : Option ℕ) → ((m : ZoneMove) → found ≡ Some m → m.pool ≡ number) → (is_some before ≡ true → before ≡ Some number) → is_some (owner_after found bit before) ≡ true → owner_after found bit before ≡ Some number
 own-after_move None bit number before own earlier held = earlier held
-own-after_move (Some m) bit number before own earlier held = own-after (is_in_run m.move.first m.move.count bit) m.claims m.pool number before (own m refl) earlier held
+own-after_move (Some m) bit number before own earlier held = own-after (is_in_run m.made.first m.made.count bit) m.claims m.pool number before (own m refl) earlier held
 
 -- an owner, where there is one, is the pool
 pub owner-own : (number : ℕ) (moves : List ZoneMove) (zone bit u : ℕ) → AllByRecursion (λ m. m.pool ≡ number) moves → is_some (owner moves zone u bit) ≡ true → owner moves zone u bit ≡ Some number
@@ -187,8 +188,8 @@ pub release-next : (number : ℕ) (moves : List ZoneMove) (old new : ZoneTable) 
 release-next number moves old new page n move stands released lt = released.version ∙ ap (λ v. v + 1) (stands.versions move.zone (release-zone old new page n move released lt))
 
 -- a release of pages that are held
-pub Stands-release : (number : ℕ) (moves : List ZoneMove) (old new : ZoneTable) (page n : ℕ) (move : Move) → Stands number moves old → IsReleased old new page n move → page / 32 < length old.bits → page % 32 + n ≤ 32 → ((p : ℕ) → page ≤ p → p < page + n → is_page_held old p ≡ true) → Stands number (moves ++ record { pool = number; claims = false; move = move; word = 0 } ∷ []) new
-Stands-release number moves old new page n move stands released lt fits set = Stands-push number moves old new (record { pool = number; claims = false; move = move; word = 0 }) stands (record {
+pub Stands-release : (number : ℕ) (moves : List ZoneMove) (old new : ZoneTable) (page n : ℕ) (move : Move) → Stands number moves old → IsReleased old new page n move → page / 32 < length old.bits → page % 32 + n ≤ 32 → ((p : ℕ) → page ≤ p → p < page + n → is_page_held old p ≡ true) → Stands number (moves ++ record { pool = number; claims = false; made = move; word = 0 } ∷ []) new
+Stands-release number moves old new page n move stands released lt fits set = Stands-push number moves old new (record { pool = number; claims = false; made = move; word = 0 }) stands (record {
   by = refl;
   zone = inside;
   version = released.version;
@@ -214,11 +215,6 @@ Stands-release number moves old new page n move stands released lt fits set = St
         let bit_is : bit ≡ p % 32 = omega arith in
         same bit (omega arith) ∙ ap (λ z. is_held old z bit) (released.zone ∙ zone_is) ∙ ap (is_held old (p / 32)) bit_is ∙ set p (omega arith) (omega arith)
 
--- no version runs out while there are few moves
-pub Stands-can_move : (number : ℕ) (moves : List ZoneMove) (table : ZoneTable) → Stands number moves table → length moves < 2 ^ 32 - 1 → CanMove table
-Stands-can_move number moves table stands few zone lt =
-    let last = stands.versions zone lt in let le = last_version-le moves zone in omega arith
-
 -- ---- looks
 
 pub all_range : {X : Type 0} (P : X → Type 0) (f : ℕ → X) (a n : ℕ) → ((i : ℕ) → a ≤ i → i < a + n → P (f i)) → AllByRecursion P (map f (range_with_len a n))
@@ -242,14 +238,11 @@ looks-true number moves table n word looks stands some passed =
         }
 
 -- and stay so
-pub IsTrueLook-push : (moves : List ZoneMove) (m : ZoneMove) (n word : ℕ) (look : Look) → m.move.version ≡ last_version moves m.move.zone + 1 → IsTrueLook moves n word look → IsTrueLook (moves ++ m ∷ []) n word look
+pub IsTrueLook-push : (moves : List ZoneMove) (m : ZoneMove) (n word : ℕ) (look : Look) → m.made.version ≡ last_version moves m.made.zone + 1 → IsTrueLook moves n word look → IsTrueLook (moves ++ m ∷ []) n word look
 IsTrueLook-push moves m n word look next true_before = record {
   version = let grows = last_version-grows moves m look.zone in let low = true_before.version in omega arith;
   full = fit_of-same _ _ n (word % 32) (λ bit low. ap is_some (owner-stable moves m look.zone bit look.version next true_before.version)) ∙ true_before.full;
 }
-
-pub looks-push : (moves : List ZoneMove) (m : ZoneMove) (n word : ℕ) (looks : List Look) → m.move.version ≡ last_version moves m.move.zone + 1 → AllByRecursion (IsTrueLook moves n word) looks → AllByRecursion (IsTrueLook (moves ++ m ∷ []) n word) looks
-looks-push moves m n word looks next all = all-weaker (IsTrueLook moves n word) (IsTrueLook (moves ++ m ∷ []) n word) looks (λ look. IsTrueLook-push moves m n word look next) all
 
 -- ---- pages
 

@@ -7,7 +7,8 @@ use Rattle.std.proofs.lemmas.List.Folds.{find-append}
 use Rattle.std.proofs.lemmas.List.Sums.{sum_by-cons, sum_by_push, count_by-le-length}
 use Rattle.om_geom.specs.BitLaws.{fit_of-same}
 use Rattle.om_model.specs.EachLaws.{all-weaker, all-both}
-use Rattle.om_model.specs.ZoneOrder.{ZoneMove, IsZoneOrder, IsLawfulMove, is_at, last_version, owner, owner_after}
+use Rattle.om_model.specs.declared.entry.ZoneMove.{ZoneMove}
+use Rattle.om_model.specs.ZoneOrder.{IsZoneOrder, IsLawfulMove, is_at, last_version, owner, owner_after}
 use Rattle.om_pool.specs.ZoneStand.{IsOwnMove}
 use mathlib.Core.Logic.{⊎_elim}
 
@@ -56,29 +57,29 @@ count_by-push_yes test xs y passes =
 
 -- ---- one more move
 
-is_at-true : (zone version : ℕ) (m : ZoneMove) → m.move.zone ≡ zone → m.move.version ≡ version → is_at zone version m ≡ true
-is_at-true zone version m z v = and_from _ _ (eq-eqb m.move.zone zone z) (eq-eqb m.move.version version v)
+is_at-true : (zone version : ℕ) (m : ZoneMove) → m.made.zone ≡ zone → m.made.version ≡ version → is_at zone version m ≡ true
+is_at-true zone version m z v = and_from _ _ (eq-eqb m.made.zone zone z) (eq-eqb m.made.version version v)
 
-is_at-other_zone : (zone version : ℕ) (m : ZoneMove) → m.move.zone ≢ zone → is_at zone version m ≡ false
-is_at-other_zone zone version m z = and_left _ _ (ne_eqb m.move.zone zone z)
+is_at-other_zone : (zone version : ℕ) (m : ZoneMove) → m.made.zone ≢ zone → is_at zone version m ≡ false
+is_at-other_zone zone version m z = and_left _ _ (ne_eqb m.made.zone zone z)
 
-is_at-other_version : (zone version : ℕ) (m : ZoneMove) → m.move.version ≢ version → is_at zone version m ≡ false
-is_at-other_version zone version m v = and_right _ _ (ne_eqb m.move.version version v)
+is_at-other_version : (zone version : ℕ) (m : ZoneMove) → m.made.version ≢ version → is_at zone version m ≡ false
+is_at-other_version zone version m v = and_right _ _ (ne_eqb m.made.version version v)
 
 pub last_version-le : (moves : List ZoneMove) (zone : ℕ) → last_version moves zone ≤ length moves
-last_version-le moves zone = count_by-le-length (λ m. m.move.zone == zone) moves
+last_version-le moves zone = count_by-le-length (λ m. m.made.zone == zone) moves
 
-pub last_version-same : (moves : List ZoneMove) (m : ZoneMove) (zone : ℕ) → m.move.zone ≡ zone → last_version (moves ++ m ∷ []) zone ≡ last_version moves zone + 1
-last_version-same moves m zone z = count_by-push_yes (λ x. x.move.zone == zone) moves m (eq-eqb m.move.zone zone z)
+pub last_version-same : (moves : List ZoneMove) (m : ZoneMove) (zone : ℕ) → m.made.zone ≡ zone → last_version (moves ++ m ∷ []) zone ≡ last_version moves zone + 1
+last_version-same moves m zone z = count_by-push_yes (λ x. x.made.zone == zone) moves m (eq-eqb m.made.zone zone z)
 
-pub last_version-other : (moves : List ZoneMove) (m : ZoneMove) (zone : ℕ) → m.move.zone ≢ zone → last_version (moves ++ m ∷ []) zone ≡ last_version moves zone
-last_version-other moves m zone z = count_by-push_no (λ x. x.move.zone == zone) moves m (ne_eqb m.move.zone zone z)
+pub last_version-other : (moves : List ZoneMove) (m : ZoneMove) (zone : ℕ) → m.made.zone ≢ zone → last_version (moves ++ m ∷ []) zone ≡ last_version moves zone
+last_version-other moves m zone z = count_by-push_no (λ x. x.made.zone == zone) moves m (ne_eqb m.made.zone zone z)
 
 pub last_version-grows : (moves : List ZoneMove) (m : ZoneMove) (zone : ℕ) → last_version moves zone ≤ last_version (moves ++ m ∷ []) zone
 last_version-grows moves m zone = ⊎_elim
     (λ z. let more = last_version-same moves m zone z in omega arith)
     (λ z. let more = last_version-other moves m zone z in omega arith)
-    (cases_eq m.move.zone zone)
+    (cases_eq m.made.zone zone)
 
 owner-same : (moves : List ZoneMove) (m : ZoneMove) (zone bit u : ℕ) → ((v : ℕ) → v ≤ u → is_at zone v m ≡ false) → owner (moves ++ m ∷ []) zone u bit ≡ owner moves zone u bit
 owner-same moves m zone bit zero out = refl
@@ -87,11 +88,11 @@ owner-same moves m zone bit (suc u) out =
     ∙ ap (λ o. owner_after (find (is_at zone (suc u)) moves) bit o) (owner-same moves m zone bit u (λ v le. out v (omega arith)))
 
 -- who had a bit before is not changed by the next move
-pub owner-stable : (moves : List ZoneMove) (m : ZoneMove) (zone bit u : ℕ) → m.move.version ≡ last_version moves m.move.zone + 1 → u ≤ last_version moves zone → owner (moves ++ m ∷ []) zone u bit ≡ owner moves zone u bit
+pub owner-stable : (moves : List ZoneMove) (m : ZoneMove) (zone bit u : ℕ) → m.made.version ≡ last_version moves m.made.zone + 1 → u ≤ last_version moves zone → owner (moves ++ m ∷ []) zone u bit ≡ owner moves zone u bit
 owner-stable moves m zone bit u next le = owner-same moves m zone bit u (λ v low. ⊎_elim
     (λ z. let same = ap (last_version moves) z in is_at-other_version zone v m (λ e. omega arith))
     (λ z. is_at-other_zone zone v m z)
-    (cases_eq m.move.zone zone))
+    (cases_eq m.made.zone zone))
 
 -- no move has the next version yet
 not_yet : (number zones : ℕ) (moves : List ZoneMove) (zone : ℕ) → AllByRecursion (IsOwnMove number zones moves) moves → AllByRecursion (λ x. is_at zone (suc (last_version moves zone)) x ≡ false) moves
@@ -99,13 +100,13 @@ not_yet number zones moves zone own = all-weaker (IsOwnMove number zones moves) 
     (λ x (mine : IsOwnMove number zones moves x). ⊎_elim
     (λ z. let same = ap (last_version moves) z in let low = mine.version in is_at-other_version zone _ x (λ e. omega arith))
     (λ z. is_at-other_zone zone _ x z)
-    (cases_eq x.move.zone zone))
+    (cases_eq x.made.zone zone))
     own
 
 -- who has a bit after the next move
-pub owner-next : (number zones : ℕ) (moves : List ZoneMove) (m : ZoneMove) (bit : ℕ) → AllByRecursion (IsOwnMove number zones moves) moves → m.move.version ≡ last_version moves m.move.zone + 1 → owner (moves ++ m ∷ []) m.move.zone (last_version moves m.move.zone + 1) bit ≡ owner_after (Some m) bit (owner moves m.move.zone (last_version moves m.move.zone) bit)
+pub owner-next : (number zones : ℕ) (moves : List ZoneMove) (m : ZoneMove) (bit : ℕ) → AllByRecursion (IsOwnMove number zones moves) moves → m.made.version ≡ last_version moves m.made.zone + 1 → owner (moves ++ m ∷ []) m.made.zone (last_version moves m.made.zone + 1) bit ≡ owner_after (Some m) bit (owner moves m.made.zone (last_version moves m.made.zone) bit)
 owner-next number zones moves m bit own next =
-    let zone : ℕ = m.move.zone in
+    let zone : ℕ = m.made.zone in
     let last : ℕ = last_version moves zone in
     ap (λ u. owner (moves ++ m ∷ []) zone u bit) (add-one last)
     ∙ ap (λ o. owner_after o bit (owner (moves ++ m ∷ []) zone last bit)) (find-push_first (is_at zone (suc last)) moves m (find-none _ moves (not_yet number zones moves zone own)) (is_at-true zone (suc last) m refl (omega arith)))
@@ -113,30 +114,30 @@ owner-next number zones moves m bit own next =
 
 -- ---- zone order
 
-once-push : (number zones : ℕ) (moves : List ZoneMove) (m : ZoneMove) → AllByRecursion (IsOwnMove number zones moves) moves → IsZoneOrder moves → m.move.version ≡ last_version moves m.move.zone + 1 → (zone version : ℕ) → 1 ≤ version → version ≤ last_version (moves ++ m ∷ []) zone → count_by (is_at zone version) (moves ++ m ∷ []) ≡ 1
+once-push : (number zones : ℕ) (moves : List ZoneMove) (m : ZoneMove) → AllByRecursion (IsOwnMove number zones moves) moves → IsZoneOrder moves → m.made.version ≡ last_version moves m.made.zone + 1 → (zone version : ℕ) → 1 ≤ version → version ≤ last_version (moves ++ m ∷ []) zone → count_by (is_at zone version) (moves ++ m ∷ []) ≡ 1
 once-push number zones moves m own order next zone version low high = ⊎_elim
     (λ z. let same = ap (last_version moves) z in let more = last_version-same moves m zone z in ⊎_elim
     (λ v. let none : count_by (is_at zone version) moves ≡ 0 = subst (λ u. count_by (is_at zone u) moves ≡ 0) (let e : suc (last_version moves zone) ≡ version = omega arith in e) (count_by-none _ moves (not_yet number zones moves zone own)) in
     let one = count_by-push_yes (is_at zone version) moves m (is_at-true zone version m z v) in omega arith)
     (λ v. count_by-push_no (is_at zone version) moves m (is_at-other_version zone version m v) ∙ order.once zone version low (omega arith))
-    (cases_eq m.move.version version))
+    (cases_eq m.made.version version))
     (λ z. let more = last_version-other moves m zone z in count_by-push_no (is_at zone version) moves m (is_at-other_zone zone version m z) ∙ order.once zone version low (omega arith))
-    (cases_eq m.move.zone zone)
+    (cases_eq m.made.zone zone)
 
 -- a lawful move stays lawful
-lawful-stable : (moves : List ZoneMove) (m x : ZoneMove) → m.move.version ≡ last_version moves m.move.zone + 1 → x.move.version ≤ last_version moves x.move.zone + 1 → IsLawfulMove moves x → IsLawfulMove (moves ++ m ∷ []) x
+lawful-stable : (moves : List ZoneMove) (m x : ZoneMove) → m.made.version ≡ last_version moves m.made.zone + 1 → x.made.version ≤ last_version moves x.made.zone + 1 → IsLawfulMove moves x → IsLawfulMove (moves ++ m ∷ []) x
 lawful-stable moves m x next low lawful = record {
   claim = λ t. record {
     clear = λ bit from below. same bit ∙ (lawful.claim t).clear bit from below;
-    first = fit_of-same _ _ x.move.count (x.word % 32) (λ bit lt. ap is_some (same bit)) ∙ (lawful.claim t).first;
+    first = fit_of-same _ _ x.made.count (x.word % 32) (λ bit lt. ap is_some (same bit)) ∙ (lawful.claim t).first;
   };
   release = λ f bit from below. same bit ∙ lawful.release f bit from below;
 }
   where
-    same : (bit : ℕ) → owner (moves ++ m ∷ []) x.move.zone (x.move.version - 1) bit ≡ owner moves x.move.zone (x.move.version - 1) bit
-    same bit = owner-stable moves m x.move.zone bit (x.move.version - 1) next (omega arith)
+    same : (bit : ℕ) → owner (moves ++ m ∷ []) x.made.zone (x.made.version - 1) bit ≡ owner moves x.made.zone (x.made.version - 1) bit
+    same bit = owner-stable moves m x.made.zone bit (x.made.version - 1) next (omega arith)
 
-pub order-push : (number zones : ℕ) (moves : List ZoneMove) (m : ZoneMove) → AllByRecursion (IsOwnMove number zones moves) moves → IsZoneOrder moves → m.move.version ≡ last_version moves m.move.zone + 1 → IsLawfulMove moves m → IsZoneOrder (moves ++ m ∷ [])
+pub order-push : (number zones : ℕ) (moves : List ZoneMove) (m : ZoneMove) → AllByRecursion (IsOwnMove number zones moves) moves → IsZoneOrder moves → m.made.version ≡ last_version moves m.made.zone + 1 → IsLawfulMove moves m → IsZoneOrder (moves ++ m ∷ [])
 order-push number zones moves m own order next lawful = record {
   once = once-push number zones moves m own order next;
   lawful = all_push (IsLawfulMove (moves ++ m ∷ [])) moves m

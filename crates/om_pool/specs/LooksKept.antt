@@ -1,8 +1,10 @@
 -- What is kept of the looks in the journal of a pool that is alone.
 use Rattle.std.specs.Prelude.{ℕ, ◌≤◌, List}
 use Rattle.std.specs.List.{AllByRecursion, flat_map}
-use Rattle.om_model.specs.Looks.{Named, named_in, AreLooks}
-use Rattle.om_model.specs.ZoneOrder.{ZoneMove, last_version, moves_of}
+use Rattle.om_model.specs.declared.looks.Named.{Named}
+use Rattle.om_model.specs.Looks.{named_in, AreLooks}
+use Rattle.om_model.specs.declared.entry.ZoneMove.{ZoneMove}
+use Rattle.om_model.specs.ZoneOrder.{last_version, moves_of}
 use Rattle.om_model.specs.declared.entry.Entry.{Entry}
 
 -- the version is one that its zone has had

@@ -2,14 +2,15 @@
 use Rattle.std.specs.Prelude.{◌≡◌, ℕ, ◌<◌, ◌≤◌, List, length}
 use Rattle.std.specs.List.{AllByRecursion}
 use Rattle.std.specs.Option.{is_some}
-use Rattle.om_model.specs.ZoneOrder.{ZoneMove, IsZoneOrder, last_version, owner}
+use Rattle.om_model.specs.declared.entry.ZoneMove.{ZoneMove}
+use Rattle.om_model.specs.ZoneOrder.{IsZoneOrder, last_version, owner}
 use Rattle.om_pool.specs.Zones.{ZoneTable, is_held, version_of}
 
 -- a move of the pool, in a zone of so many, with a version that the zone has had
 pub record IsOwnMove (number zones : ℕ) (moves : List ZoneMove) (m : ZoneMove) : Type 0 where
   pub pool : m.pool ≡ number
-  pub zone : m.move.zone < zones
-  pub version : m.move.version ≤ last_version moves m.move.zone
+  pub zone : m.made.zone < zones
+  pub version : m.made.version ≤ last_version moves m.made.zone
 
 -- The moves, all of them this pool's, are in zone order and leave the table.
 pub record Stands (pool : ℕ) (moves : List ZoneMove) (table : ZoneTable) : Type 0 where

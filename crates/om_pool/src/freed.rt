@@ -88,7 +88,7 @@ impl Core {
             who,
             op: Op::Free { addr: address },
             reply,
-            words: one_word(word),
+            words: Drawn::one(word),
             looks: LookList::empty(self.alloc),
             taken: None,
             claim: None,
@@ -183,7 +183,7 @@ impl Core {
             who,
             op: Op::Free { addr: address },
             reply: Reply::Done,
-            words: one_word(word),
+            words: Drawn::one(word),
             looks: LookList::empty(self.alloc),
             taken: None,
             claim: None,
@@ -278,12 +278,4 @@ fn reply_again(seen: bool) -> Reply
     } else {
         Reply::Done
     }
-}
-
-fn one_word(word: u32) -> Drawn
-    ensures { result ≡ word ∷ [] }
-{
-    let mut words = Drawn::empty();
-    words.push(word);
-    words
 }

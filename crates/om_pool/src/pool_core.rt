@@ -253,7 +253,7 @@ impl Core {
             who,
             op: Op::Malloc { size, site },
             reply,
-            words: two_words(pair),
+            words: Drawn::two(pair.first, pair.second),
             looks: search.looks,
             taken: None,
             claim: search.claim,
@@ -286,16 +286,6 @@ impl Core {
             None => self.malloc_claimed(who, class, pair, size, site),
         }
     }
-}
-
-// The words of an allocation.
-fn two_words(pair: Pair) -> Drawn
-    ensures { result ≡ pair.first ∷ pair.second ∷ [] }
-{
-    let mut words = Drawn::empty();
-    words.push(pair.first);
-    words.push(pair.second);
-    words
 }
 
 // A null, or where the option says so the fault in its place.

@@ -1,4 +1,5 @@
-ghost use Rattle.std.specs.Prelude.{◌≡◌, ◌<◌, length, slice_index, IfOk};
+ghost use Rattle.std.specs.Prelude.{◌≡◌, ◌^◌, ◌<◌, length, slice_index, IfOk};
+ghost use Rattle.std.specs.List.{AllByRecursion};
 
 use std::alloc::{AllocError, Global};
 use std::marker::Model;
@@ -40,9 +41,22 @@ impl WordList {
         self.words[i as usize]
     }
 
+    /// A law of the type: each word has 32 bits.
+    pub fn fits(&self)
+        ensures { AllByRecursion (λ word. word < 2 ^ 32) self.now }
+    {
+        words_fit(self.words.as_slice());
+    }
+
     pub(crate) fn copy(&self, alloc: Global) -> Result<WordList, AllocError>
         ensures { IfOk result (λ list. list ≡ self.now) }
     {
         Ok(WordList::new(Vec::from_slice(alloc, self.words.as_slice())?))
     }
+}
+
+fn words_fit(words: &[u32])
+    ensures { AllByRecursion (λ word. word < 2 ^ 32) words.now }
+{
+    let _count = words.len();
 }

@@ -1,11 +1,20 @@
 -- Texts that go through a buffer one after another.
 use Rattle.std.proofs.Common.{◌≡◌, ℕ, ◌+◌, ◌-◌, Option, None, Some, List, [], ◌++◌, length, take, drop, refl, sym, subst, ◌∙◌, ap, arith, append_assoc, append-nil, length-append, Result, Ok, Err, OnErr}
-use Rattle.std.proofs.lemmas.List.{take-append-le}
+use Rattle.std.proofs.lemmas.List.{take-append-le, take-append-drop}
+use Rattle.std.proofs.lemmas.List.Concat.{flat_map-append}
 use Rattle.std.proofs.Math.Seq.{take-append-add}
 use Rattle.std.specs.List.{flat_map, slice_get}
 use Rattle.om_io.specs.Sink.{Appends, AppendsFront}
 use Rattle.omalloc.specs.Report.{followed, Adds}
-use Rattle.omalloc.proofs.Parts.{flat_map_next, flat_map_cut}
+use Rattle.om_model.specs.ListLaws.{flat_map_next}
+
+-- a list cut before an item
+flat_map_cut : {X : Type 0} (f : X → List ℕ) (xs : List X) (i : ℕ) (x : X) → slice_get xs i ≡ Some x →
+    (flat_map f (take i xs) ++ f x) ++ flat_map f (drop (i + 1) xs) ≡ flat_map f xs
+flat_map_cut f xs i x at =
+    ap (λ text. text ++ flat_map f (drop (i + 1) xs)) (flat_map_next f [] xs i x at)
+    ∙ sym (flat_map-append f (take (i + 1) xs) (drop (i + 1) xs))
+    ∙ ap (flat_map f) (take-append-drop (i + 1) xs)
 
 -- nothing was given to the sink yet
 pub Adds-buffered : (written : Option (List ℕ)) (before after text : List ℕ) → after ≡ before ++ text → Adds written written before after text
@@ -17,13 +26,6 @@ Adds-buffered written before after text same = record {
 followed-followed : (written : Option (List ℕ)) (first second : List ℕ) → followed (followed written first) second ≡ followed written (first ++ second)
 followed-followed None first second = refl
 followed-followed (Some before) first second = ap Some (append_assoc before first second)
-
--- the whole buffer was given to the sink
-pub Adds-flushed : (old new : Option (List ℕ)) (before : List ℕ) → Appends old new before → Adds old new before [] []
-Adds-flushed old new before added = record {
-  joined = ap (λ written. followed written []) added ∙ followed-followed old before [];
-  short = omega arith;
-}
 
 pub Adds-both : (old middle new : Option (List ℕ)) (before between after first second : List ℕ) →
     Adds old middle before between first → Adds middle new between after second → Adds old new before after (first ++ second)

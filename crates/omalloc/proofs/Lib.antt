@@ -2,7 +2,6 @@ pub mod TextCuts
 pub mod TextNames
 pub mod TextForm
 pub mod HexDigits
-pub mod Parts
 pub mod RunLaws
 pub mod TopLaws
 pub mod AddsLaws

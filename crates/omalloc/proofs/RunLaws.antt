@@ -16,8 +16,10 @@ use Rattle.om_model.specs.declared.entry.CallEntry.{CallEntry}
 use Rattle.om_model.specs.declared.entry.Entry.{Entry}
 use Rattle.om_model.specs.declared.entry.Entry.TheVariants as journal
 use Rattle.om_model.specs.LawfulJournal.{phases_in}
-use Rattle.om_model.specs.ScriptRun.{Call, Ran, nothing, with_call, with_outcome, command_run, run_from, op_of, outcome_of, assigned, is_fault, IsEnded}
-use Rattle.om_model.specs.ScriptCalls.{Asked, AreCalls, OnlyCallers, CallerBelow, IsAnswered, IsScriptRun, last_reply, seen_in, asked_in}
+use Rattle.om_model.specs.declared.operation.Call.{Call}
+use Rattle.om_model.specs.ScriptRun.{Ran, nothing, with_call, with_outcome, command_run, run_from, op_of, outcome_of, assigned, is_fault, IsEnded}
+use Rattle.om_model.specs.declared.entry.Asked.{Asked}
+use Rattle.om_model.specs.ScriptCalls.{AreCalls, OnlyCallers, CallerBelow, IsAnswered, IsScriptRun, last_reply, seen_in, asked_in}
 use Rattle.om_opts.specs.declared.options.Opts.{Opts}
 use Rattle.om_words.specs.DrawnWords.{WordSource, undrawn}
 use Rattle.om_words.specs.PlannedWords.{source_for}

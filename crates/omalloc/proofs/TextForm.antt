@@ -1,5 +1,5 @@
 -- What holds of every accepted script, by the definition of accepted input alone.
-use Rattle.std.proofs.Common.{◌≡◌, refl, subst, Bool, true, false, cond, ◌&&◌, List, [], ◌∷◌, ◌++◌, ℕ, ◌+◌, ◌<◌, ◌≤◌, length, arith, Option, Some, None, Result, Ok, Err, eqb, ltb, leb, length-append}
+use Rattle.std.proofs.Common.{◌≡◌, refl, subst, Bool, true, false, cond, ◌&&◌, List, [], ◌∷◌, ◌++◌, ℕ, ◌+◌, ◌<◌, ◌≤◌, length, arith, Option, Some, None, Result, Ok, Err, eqb, ltb, leb, length-append, bytes_eq, codes}
 use Rattle.std.specs.List.{list_all}
 use Rattle.std.specs.Option.{option_map, option_map_or, option_and_then}
 use Rattle.std.proofs.lemmas.Grind.{common_steps}
@@ -12,8 +12,8 @@ use Rattle.om_model.specs.declared.command.Command.{Command}
 use Rattle.om_model.specs.declared.command.Command.TheVariants.{Malloc, Free}
 use Rattle.omalloc.specs.declared.script.Request.{Request}
 use Rattle.omalloc.specs.declared.script.Request.TheVariants as request
-use Rattle.omalloc.specs.Script.{ScriptText, IsCommand, IsScript}
-use Rattle.omalloc.specs.AcceptedInput.{is_digit, number_of, size_of, title_of, request_of, command_of, place_of, with_name, with_command, with_line, ended, script_from, titled, script_of_lines, script_of, text_lines, words_of}
+use Rattle.omalloc.specs.Script.{ScriptText, is_digit, is_name, IsCommand, IsScript}
+use Rattle.omalloc.specs.AcceptedInput.{number_of, size_of, title_of, request_of, command_of, place_of, with_name, with_command, with_line, ended, script_from, titled, script_of_lines, script_of, text_lines, words_of}
 
 and_front : (a b : Bool) → (a && b) ≡ true → a ≡ true
 and_front true b e = refl
@@ -81,6 +81,7 @@ with_command_keeps s r t e sized is =
     let few : length names ≤ 64 = leb-true (length names) 64 (and_back (ltb (length s.commands) 200000) (leb (length names) 64) found.0) in
     let place : place_of s.names r.0 < length names = place_stands (place_of s.names r.0) s.names r.0 (place_le s.names r.0) in
     subst IsScript found.1 (record {
+      name = is.name;
       short = omega (arith, length-append s.commands (command_of (place_of s.names r.0) r.1 ∷ []));
       few_names = few;
       each = All-push (IsCommand (length names)) s.commands (command_of (place_of s.names r.0) r.1)
@@ -116,16 +117,25 @@ script_from_keeps number s (line ∷ lines) t is e =
     (with_line_keeps s (request_of (words_of line)) longer (request_sized (words_of line)) has is) rest)
     e
 
-titled_is : (name : List ℕ) → IsScript (titled name)
-titled_is name = record { short = omega arith; few_names = omega arith; each = All-nil (IsCommand 0) }
+title_named : (words : List (List ℕ)) (name : List ℕ) → title_of words ≡ Some name → is_name name ≡ true
+title_named [] name e = cc
+title_named (k ∷ []) name e = cc
+title_named (k ∷ n ∷ []) name e =
+    let found = cond_some (bytes_eq k (codes "script") && is_name n) n name e in
+    subst (λ title. is_name title ≡ true) found.1 (and_back (bytes_eq k (codes "script")) (is_name n) found.0)
+title_named (k ∷ n ∷ m ∷ words) name e = cc
 
-titled_keeps : (o : Option (List ℕ)) (lines : List (List ℕ)) (t : ScriptText) → option_map_or (λ name. script_from 2 (titled name) lines) o (Err 1) ≡ Ok t → IsScript t
-titled_keeps (Some name) lines t e = script_from_keeps 2 (titled name) lines t (titled_is name) e
-titled_keeps None lines t e = cc
+titled_is : (name : List ℕ) → is_name name ≡ true → IsScript (titled name)
+titled_is name named = record { name = named; short = omega arith; few_names = omega arith; each = All-nil (IsCommand 0) }
+
+titled_keeps : (o : Option (List ℕ)) (lines : List (List ℕ)) (t : ScriptText) → ((name : List ℕ) → o ≡ Some name → is_name name ≡ true)
+    → option_map_or (λ name. script_from 2 (titled name) lines) o (Err 1) ≡ Ok t → IsScript t
+titled_keeps (Some name) lines t named e = script_from_keeps 2 (titled name) lines t (titled_is name (named name refl)) e
+titled_keeps None lines t named e = cc
 
 lines_keep : (lines : List (List ℕ)) (t : ScriptText) → script_of_lines lines ≡ Ok t → IsScript t
 lines_keep [] t e = cc
-lines_keep (line ∷ lines) t e = titled_keeps (title_of (words_of line)) lines t e
+lines_keep (line ∷ lines) t e = titled_keeps (title_of (words_of line)) lines t (title_named (words_of line)) e
 
 pub accepted_is_script : (text : List ℕ) (t : ScriptText) → script_of text ≡ Ok t → IsScript t
 unfolding script_of

@@ -7,7 +7,7 @@ use Rattle.om_opts.specs.declared.options.Opts.{Opts}
 use Rattle.om_words.specs.declared.plan.WordPlan.{WordPlan}
 use Rattle.om_model.specs.Rules.{Rules, canary_byte}
 use Rattle.om_model.specs.OutputText.{Head, head_lines, flags_text, plan_text, warning_line, rules_of, pool_title, ended_line, byte_text}
-use Rattle.omalloc.specs.Report.{warned_line}
+use Rattle.om_model.specs.TextParts.{warned_line}
 
 -- one word more, behind a comma
 listed_step : (words : List ℕ) (i : ℕ) → suc i < length words →

@@ -20,11 +20,12 @@ use Rattle.omalloc.specs.declared.refusal.Refusal.{Refusal}
 use Rattle.omalloc.specs.declared.refusal.Refusal.TheVariants.{Words, Line, TooLong}
 use Rattle.omalloc.specs.declared.status.Status.{Status}
 use Rattle.omalloc.specs.declared.status.Status.TheVariants as status
+use Rattle.om_model.specs.OutputRanges.{IsInRange}
 use Rattle.omalloc.specs.Headline.{IsHeadline}
 use Rattle.omalloc.specs.Heads.{IsHead}
 use Rattle.omalloc.specs.Report.{content}
 use Rattle.omalloc.specs.Run.{RanAlone}
-use Rattle.omalloc.specs.Script.{ScriptText}
+use Rattle.omalloc.specs.Script.{ScriptText, IsScript}
 
 -- the moves of one journal alone
 moves_alone : (entries : List Entry) → moves_of 0 entries ≡ moves_from 0 (entries ∷ [])
@@ -55,9 +56,10 @@ apart-alone : (head : Head) (entries : List Entry) → IsLawful (rules_of head 0
 apart-alone head entries lawful zero before rest below cut = state_of-well_formed (rules_of head 0) before rest (subst (λ es. IsLawful (rules_of head 0) es) cut lawful)
 apart-alone head entries lawful (suc pool) before rest below cut = absurd (omega arith)
 
-pub headline-alone : (head : Head) (script : ScriptText) (pool : PoolView) (outcomes : List Outcome) → head.options.pools ≡ 1 → RanAlone head script pool outcomes → IsRun pool →
-    IsHeadline head (script ∷ []) (content head pool.journal.items script.name outcomes)
-headline-alone head script pool outcomes one ran run =
+pub headline-alone : (head : Head) (script : ScriptText) (pool : PoolView) (outcomes : List Outcome) → IsHead head → IsScript script → RanAlone head script pool outcomes → IsRun pool →
+    IsInRange (content head pool.journal.items script.name outcomes) → IsHeadline head (script ∷ []) (content head pool.journal.items script.name outcomes)
+headline-alone head script pool outcomes form is ran run numbers =
+    let one = form.pools in
     let entries = pool.journal.items in
     let told : Told = record { name = script.name; outcomes = outcomes } in
     let number : pool.rules.pool ≡ 0 = ap (λ r. r.pool) ran.rules in
@@ -69,6 +71,9 @@ headline-alone head script pool outcomes one ran run =
       pools = sym one;
       board = refl;
       names = refl;
+      named = (is.name, tt);
+      words = form.words;
+      numbers = numbers;
       lawful = λ pool below. one_pool (λ n es. IsLawful (rules_of head n) es) entries lawful pool (omega (arith, one, below));
       apart = λ pool before rest below. apart-alone head entries lawful pool before rest (omega (arith, one, below));
       order = subst (λ ms. IsZoneOrder ms) moves run.order;
@@ -77,10 +82,10 @@ headline-alone head script pool outcomes one ran run =
       only = (ran.only, tt);
     }
 
-pub run-alone : (head : Head) (script : ScriptText) (pool : PoolView) (outcomes : List Outcome) (faulted : Bool) → IsHead head → RanAlone head script pool outcomes → IsRun pool → faulted ≡ list_any is_fault outcomes →
+pub run-alone : (head : Head) (script : ScriptText) (pool : PoolView) (outcomes : List Outcome) (faulted : Bool) → IsHead head → IsScript script → RanAlone head script pool outcomes → IsRun pool → IsInRange (content head pool.journal.items script.name outcomes) → faulted ≡ list_any is_fault outcomes →
     IsRunOf head script faulted (content head pool.journal.items script.name outcomes)
-run-alone head script pool outcomes faulted form ran run same = record {
-  headline = headline-alone head script pool outcomes form.pools ran run;
+run-alone head script pool outcomes faulted form is ran run numbers same = record {
+  headline = headline-alone head script pool outcomes form is ran run numbers;
   ended = or_false (list_any is_fault outcomes) ∙ sym same;
 }
   where
@@ -90,25 +95,26 @@ run-alone head script pool outcomes faulted form ran run same = record {
 
 -- what is written of the pool's journal, the script's name and the outcomes is a run
 run-told : (head : Head) (script : ScriptText) (pool : PoolView) (outcomes : List Outcome) (faulted : Bool) (name : List ℕ) →
-    IsHead head → RanAlone head script pool outcomes → IsRun pool → faulted ≡ list_any is_fault outcomes → name ≡ script.name →
+    IsHead head → IsScript script → RanAlone head script pool outcomes → IsRun pool → IsInRange (content head pool.journal.items name outcomes) → faulted ≡ list_any is_fault outcomes → name ≡ script.name →
     IsRunOf head script faulted (content head pool.journal.items name outcomes)
-run-told head script pool outcomes faulted name form ran run same named =
-    subst (λ n. IsRunOf head script faulted (content head pool.journal.items n outcomes)) (sym named) (run-alone head script pool outcomes faulted form ran run same)
+run-told head script pool outcomes faulted name form is ran run numbers same named =
+    let here = subst (λ n. IsInRange (content head pool.journal.items n outcomes)) named numbers in
+    subst (λ n. IsRunOf head script faulted (content head pool.journal.items n outcomes)) (sym named) (run-alone head script pool outcomes faulted form is ran run here same)
 
 pub WritesRun-told : (head : Head) (script : ScriptText) (output : Output) (pool : PoolView) (outcomes : List Outcome) (told faulted : Bool) (name : List ℕ) →
-    IsHead head → RanAlone head script pool outcomes → IsRun pool → told ≡ list_any is_fault outcomes → told ≡ faulted → name ≡ script.name →
+    IsHead head → IsScript script → RanAlone head script pool outcomes → IsRun pool → IsInRange (content head pool.journal.items name outcomes) → told ≡ list_any is_fault outcomes → told ≡ faulted → name ≡ script.name →
     Appends output.written output.written_after (text_of (content head pool.journal.items name outcomes)) → WritesRun head script output faulted
-WritesRun-told head script output pool outcomes told faulted name form ran run same is named added = record {
+WritesRun-told head script output pool outcomes told faulted name form is ran run numbers same same_told named added = record {
   content = content head pool.journal.items name outcomes;
-  run = run-told head script pool outcomes faulted name form ran run (sym is ∙ same) named;
+  run = run-told head script pool outcomes faulted name form is ran run numbers (sym same_told ∙ same) named;
   added = added;
 }
 
 pub WritesFrontOfRun-told : (head : Head) (script : ScriptText) (output : Output) (pool : PoolView) (outcomes : List Outcome) (told : Bool) (name : List ℕ) →
-    IsHead head → RanAlone head script pool outcomes → IsRun pool → told ≡ list_any is_fault outcomes → name ≡ script.name →
+    IsHead head → IsScript script → RanAlone head script pool outcomes → IsRun pool → IsInRange (content head pool.journal.items name outcomes) → told ≡ list_any is_fault outcomes → name ≡ script.name →
     AppendsFront output.written output.written_after (text_of (content head pool.journal.items name outcomes)) → WritesFrontOfRun head script output
-WritesFrontOfRun-told head script output pool outcomes told name form ran run same named front =
-    (told, content head pool.journal.items name outcomes, run-told head script pool outcomes told name form ran run same named, front)
+WritesFrontOfRun-told head script output pool outcomes told name form is ran run numbers same named front =
+    (told, content head pool.journal.items name outcomes, run-told head script pool outcomes told name form is ran run numbers same named, front)
 
 -- the answers of the parts are answers of the whole
 pub run_answer : (input : Input) (output : Output) (head : Head) (script : ScriptText) (s : Status) → IsAccepted input head script → IsRunAnswer head script output s → IsAnswer input output s

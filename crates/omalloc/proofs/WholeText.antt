@@ -8,7 +8,8 @@ use Rattle.om_model.specs.declared.entry.Entry.{Entry}
 use Rattle.om_model.specs.declared.reply.Outcome.{Outcome}
 use Rattle.om_model.specs.ScriptRun.{is_fault}
 use Rattle.om_model.specs.OutputText.{Head, head_lines, pool_title, pool_lines, board_lines, script_lines, entry_text, outcome_line, ending_line, ended_line, text_of}
-use Rattle.omalloc.specs.Report.{content, told, entry_line, numbered_line, front_of, back_of}
+use Rattle.om_model.specs.TextParts.{told, entry_line, numbered_line}
+use Rattle.omalloc.specs.Report.{content, front_of, back_of}
 
 -- the head and the pool
 pub front_text : (head : Head) (entries : List Entry) →

@@ -1,8 +1,8 @@
 -- Accepted input. Line 1 is `script NAME`, then come at most 200,000 lines `malloc V N` or `free V`, and
--- the last line is `end`. N is decimal, from 1 to 2048. V and NAME are names, and the variables have at
--- most 64 of them. One byte 32 stands between two words, and none elsewhere. Each line ends with byte 10, the
+-- the last line is `end`. N is decimal, from 1 to 2048. V and NAME are names, and at most 64 different
+-- variables are used. One byte 32 stands between two words, and none elsewhere. Each line ends with byte 10, the
 -- last perhaps without.
-use Rattle.std.specs.Prelude.{ℕ, ◌≡◌, ◌+◌, ◌-◌, ◌*◌, Bool, false, ◌&&◌, ◌||◌, ◌==◌, nat_le, nat_lt, List, [], ◌∷◌, ◌++◌, length, fold, slice_get, codes, Option, Some, None, Result, Ok, Err, if◌then◌else◌, bytes_eq}
+use Rattle.std.specs.Prelude.{ℕ, ◌≡◌, ◌+◌, ◌-◌, ◌*◌, ◌&&◌, ◌==◌, nat_le, nat_lt, List, [], ◌∷◌, ◌++◌, length, fold, codes, Option, Some, None, Result, Ok, Err, if◌then◌else◌, bytes_eq}
 use Rattle.std.specs.List.{slice_split, onto_first, list_all, position_or_len}
 use Rattle.std.specs.Option.{option_map_or, option_map, option_and_then}
 use Rattle.om_model.specs.declared.command.Command.{Command}
@@ -11,7 +11,7 @@ use Rattle.omalloc.specs.declared.script.Request.{Request}
 use Rattle.omalloc.specs.declared.script.Request.TheVariants as request
 use Rattle.omalloc.specs.declared.read.TextStop.{TextStop}
 use Rattle.omalloc.specs.declared.read.TextStop.TheVariants.{Refused, Memory}
-use Rattle.omalloc.specs.Script.{ScriptText}
+use Rattle.omalloc.specs.Script.{ScriptText, is_digit, is_name}
 
 -- the lines end at each byte 10, and the last one perhaps at the end of the text
 abbrev pub text_lines : List ℕ → List (List ℕ)
@@ -21,19 +21,6 @@ text_lines (b ∷ bs) = if b == 10 then [] ∷ text_lines bs else onto_first b (
 -- what stands between the spaces
 abbrev pub words_of : List ℕ → List (List ℕ)
 words_of line = slice_split (λ b. b == 32) line
-
-abbrev pub is_digit : ℕ → Bool
-is_digit b = nat_le 48 b && nat_le b 57
-
-abbrev pub is_letter : ℕ → Bool
-is_letter b = nat_le 97 b && nat_le b 122
-
-abbrev pub is_name_byte : ℕ → Bool
-is_name_byte b = is_letter b || is_digit b || b == 95
-
--- a letter, and at most 15 letters, digits and low lines
-abbrev pub is_name : List ℕ → Bool
-is_name word = option_map_or is_letter (slice_get word 0) false && nat_le (length word) 16 && list_all is_name_byte word
 
 -- the number that decimal digits stand for
 abbrev pub number_of : List ℕ → ℕ

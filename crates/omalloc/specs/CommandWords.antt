@@ -11,7 +11,8 @@ use Rattle.om_opts.specs.declared.options.Opts.{Opts}
 use Rattle.om_words.specs.declared.plan.WordPlan.{WordPlan}
 use Rattle.om_words.specs.declared.plan.WordPlan.TheVariants.{Listed, Seeded}
 use Rattle.om_model.specs.OutputText.{Head}
-use Rattle.omalloc.specs.AcceptedInput.{is_digit, number_of}
+use Rattle.omalloc.specs.AcceptedInput.{number_of}
+use Rattle.omalloc.specs.Script.{is_digit}
 
 -- what the words of a run say
 pub record RunWords : Type 0 where

@@ -2,12 +2,10 @@
 use Rattle.std.specs.Prelude.{◌≡◌, ℕ, ◌+◌, ◌≤◌, Option, List, [], ◌∷◌, ◌++◌, length, codes}
 use Rattle.std.specs.List.{flat_map}
 use Rattle.std.specs.Option.{option_map}
-use Rattle.om_model.specs.OutputText.{Head, Told, Content, head_lines, pool_lines, board_lines, script_lines, warning_line, entry_text, outcome_line, ended_line}
+use Rattle.om_model.specs.OutputText.{Head, Content, head_lines, pool_lines, board_lines, script_lines, ended_line}
+use Rattle.om_model.specs.TextParts.{told}
 use Rattle.om_model.specs.declared.entry.Entry.{Entry}
 use Rattle.om_model.specs.declared.reply.Outcome.{Outcome}
-
-abbrev pub told : List ℕ → List Outcome → Told
-told name outcomes = record { name = name; outcomes = outcomes }
 
 -- a run of one script on one pool, with nothing on the board
 abbrev pub content : Head → List Entry → List ℕ → List Outcome → Content
@@ -25,15 +23,6 @@ front_of head entries = flat_map ended_line (head_lines head ++ pool_lines head 
 -- the text of the empty board, the script and the last line
 abbrev pub back_of : List ℕ → List Outcome → List ℕ
 back_of name outcomes = flat_map ended_line (board_lines [] ++ script_lines (0, told name outcomes) ++ codes "done" ∷ [])
-
-abbrev pub entry_line : Entry → List ℕ
-entry_line entry = ended_line (entry_text entry)
-
-abbrev pub warned_line : ℕ → List ℕ
-warned_line byte = ended_line (warning_line byte)
-
-abbrev pub numbered_line : ℕ × Outcome → List ℕ
-numbered_line numbered = ended_line (outcome_line numbered)
 
 -- what a sink has taken, and then the text
 abbrev pub followed : Option (List ℕ) → List ℕ → Option (List ℕ)

@@ -2,7 +2,8 @@
 
 ghost use Rattle.std.specs.Prelude.{◌≡◌, ◌^◌, ◌<◌, ◌≤◌, ◌==◌, [], ◌∷◌, length, min, IfSome, MatchOption, IsTrue};
 ghost use Rattle.std.specs.List.{list_all, position, slice_split};
-ghost use Rattle.omalloc.specs.AcceptedInput.{is_digit, number_of};
+ghost use Rattle.omalloc.specs.AcceptedInput.{number_of};
+ghost use Rattle.omalloc.specs.Script.{is_digit};
 
 /// The place of the first such byte.
 pub(crate) fn first_place(text: &[u8], byte: u8) -> Option<usize>

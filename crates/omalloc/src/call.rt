@@ -6,7 +6,6 @@ ghost use Rattle.omalloc.specs.Heads.{IsHead};
 ghost use Rattle.omalloc.specs.Script.{IsScript};
 
 use crate::gate::Gate;
-use crate::head::Head;
 use crate::read::{TextStop, read};
 use crate::refusal::Refusal;
 use crate::report::{write_line, write_output};
@@ -15,6 +14,7 @@ use crate::script::Script;
 use crate::status::Status;
 use crate::words::{WordsStop, read_words};
 use om_io::{ReadStop, Sink, Source, WriteStop, read_all};
+use om_model::Head;
 use std::alloc::Global;
 use std::sync::Wait;
 use std::thread::Threads;

@@ -4,7 +4,6 @@
 mod bytes;
 mod call;
 mod gate;
-mod head;
 mod read;
 mod refusal;
 mod report;

@@ -108,41 +108,97 @@ mod tests {
         }
     }
 
+    // A script that frees so many different variables.
+    fn frees(alloc: Global, names: u8) -> Result<Vec<u8>, AllocError> {
+        let mut text = b"script a\n".to_vec(alloc)?;
+        for i in 0..names {
+            text.extend_from_slice(b"free ")?;
+            text.push(b'a' + i % 26)?;
+            text.push(b'a' + i / 26)?;
+            text.push(b'\n')?;
+        }
+        text.extend_from_slice(b"end\n")?;
+        Ok(text)
+    }
+
+    // A script of so many commands.
+    fn mallocs(alloc: Global, commands: u32) -> Result<Vec<u8>, AllocError> {
+        let mut text = b"script a\n".to_vec(alloc)?;
+        for _ in 0..commands {
+            text.extend_from_slice(b"malloc x 16\n")?;
+        }
+        text.extend_from_slice(b"end\n")?;
+        Ok(text)
+    }
+
     #[test]
-    fn refuses_at_the_first_bad_line(rt: HostRuntime) {
-        let cases = [
-            ("", 1),
-            ("\n", 1),
-            ("script A\nend\n", 1),
-            ("script a_17_letters_name\nend\n", 1),
-            ("script a b\nend\n", 1),
-            ("script a\n", 2),
-            ("script a\nmalloc x 2049\nend\n", 2),
-            ("script a\nmalloc x 0\nend\n", 2),
-            ("script a\nmalloc x 18446744073709551617\nend\n", 2),
-            ("script a\nmalloc x  1\nend\n", 2),
-            ("script a\nmalloc x 1\r\nend\n", 2),
-            ("script a\nmalloc x 1 2\nend\n", 2),
-            ("script a\nmalloc x 0x10\nend\n", 2),
-            ("script a\nmalloc 1x 1\nend\n", 2),
-            ("script a\nfree x\nfree x \nend\n", 3),
-            ("script a\nfree x\nend\n\n", 4),
-            ("script a\nfree x\nend\nend", 4),
-            ("script a\nfree x\nend \n", 3),
+    fn refuses_at_the_first_bad_line(rt: HostRuntime) -> Result<(), Fail> {
+        let names = frees(rt.alloc(), 65)?;
+        let long = mallocs(rt.alloc(), 200_001)?;
+        let cases: [(&[u8], u32); 20] = [
+            (b"", 1),
+            (b"\n", 1),
+            (b"script A\nend\n", 1),
+            (b"script a_17_letters_name\nend\n", 1),
+            (b"script a b\nend\n", 1),
+            (b"script a\n", 2),
+            (b"script a\nmalloc x 2049\nend\n", 2),
+            (b"script a\nmalloc x 0\nend\n", 2),
+            (b"script a\nmalloc x 18446744073709551617\nend\n", 2),
+            (b"script a\nmalloc x  1\nend\n", 2),
+            (b"script a\nmalloc x 1\r\nend\n", 2),
+            (b"script a\nmalloc x 1 2\nend\n", 2),
+            (b"script a\nmalloc x 0x10\nend\n", 2),
+            (b"script a\nmalloc 1x 1\nend\n", 2),
+            (b"script a\nfree x\nfree x \nend\n", 3),
+            (b"script a\nfree x\nend\n\n", 4),
+            (b"script a\nfree x\nend\nend", 4),
+            (b"script a\nfree x\nend \n", 3),
+            (&names, 66),
+            (&long, 200_002),
         ];
         for (text, line) in cases {
-            assert_eq!(rt;
-                refused_line(&rt, rt.alloc(), text.as_bytes()),
-                line,
-                "{text}"
-            );
+            assert_eq!(rt; refused_line(&rt, rt.alloc(), text), line);
         }
+        Ok(())
+    }
+
+    // Leading zeros, a name of 16 letters, no command, no line end after `end`; 64 names and 200,000 commands.
+    #[test]
+    fn accepts_up_to_the_edges(rt: HostRuntime) -> Result<(), Fail> {
+        let names = frees(rt.alloc(), 64)?;
+        let long = mallocs(rt.alloc(), 200_000)?;
+        let cases: [(&[u8], &[u8], usize, usize); 6] = [
+            (
+                b"script a\nmalloc x 00000000000000000000002048\nend\n",
+                b"a",
+                1,
+                1,
+            ),
+            (
+                b"script a_name_of_16_let\nmalloc y 1\nend\n",
+                b"a_name_of_16_let",
+                1,
+                1,
+            ),
+            (b"script a\nend\n", b"a", 0, 0),
+            (b"script a\nfree x\nend", b"a", 1, 1),
+            (&names, b"a", 64, 64),
+            (&long, b"a", 1, 200_000),
+        ];
+        for (text, name, variables, commands) in cases {
+            assert!(rt; text.len() <= 16_777_216);
+            let script = read(rt.alloc(), text)?;
+            assert_eq!(rt; script.name(), name);
+            assert_eq!(rt; script.variables(), variables);
+            assert_eq!(rt; script.commands().len(), commands);
+        }
+        Ok(())
     }
 
     #[test]
     fn reads_the_commands(rt: HostRuntime) -> Result<(), Fail> {
-        let text =
-            b"script a_name_of_16_let\nmalloc x 00000000000000000000002048\nmalloc y 1\nfree x\nend";
+        let text = b"script a\nmalloc x 00000000000000000000002048\nmalloc y 1\nfree x\nend";
         let script = read(rt.alloc(), text)?;
         let commands = [
             Command::Malloc {
@@ -157,35 +213,7 @@ mod tests {
             },
             Command::Free { var: 0 },
         ];
-        assert_eq!(rt; script.name(), b"a_name_of_16_let".as_slice());
-        assert_eq!(rt; script.variables(), 2);
         assert_eq!(rt; script.commands(), commands.as_slice());
-        assert_eq!(rt; read(rt.alloc(), b"script a\nend\n")?.variables(), 0);
-        Ok(())
-    }
-
-    #[test]
-    fn refuses_the_65th_name(rt: HostRuntime) -> Result<(), Fail> {
-        let mut text = b"script a\n".to_vec(rt.alloc())?;
-        for i in 0..65u8 {
-            text.extend_from_slice(b"free ")?;
-            text.push(b'a' + i % 26)?;
-            text.push(b'a' + i / 26)?;
-            text.push(b'\n')?;
-        }
-        text.extend_from_slice(b"end\n")?;
-        assert_eq!(rt; refused_line(&rt, rt.alloc(), &text), 66);
-        Ok(())
-    }
-
-    #[test]
-    fn refuses_command_200_001(rt: HostRuntime) -> Result<(), Fail> {
-        let mut text = b"script a\n".to_vec(rt.alloc())?;
-        for _ in 0..200_001 {
-            text.extend_from_slice(b"malloc x 16\n")?;
-        }
-        text.extend_from_slice(b"end\n")?;
-        assert_eq!(rt; refused_line(&rt, rt.alloc(), &text), 200_002);
         Ok(())
     }
 }

@@ -6,13 +6,14 @@ ghost use Rattle.om_io.specs.Sink.{Appends, AppendsFront};
 ghost use Rattle.om_model.specs.ScriptRun.{is_fault};
 ghost use Rattle.om_model.specs.OutputText.{ended_line, rules_of, text_of};
 ghost use Rattle.omalloc.specs.Refusals.{refusal_line};
-ghost use Rattle.omalloc.specs.Report.{content, entry_line, numbered_line, front_of, back_of, Adds};
+ghost use Rattle.om_model.specs.TextParts.{entry_line, numbered_line};
+ghost use Rattle.om_model.specs.OutputRanges.{IsInRange};
+ghost use Rattle.omalloc.specs.Report.{content, front_of, back_of, Adds};
 
-use crate::head::Head;
 use crate::refusal::Refusal;
 use crate::text;
 use om_io::{Sink, WriteStop, write_all};
-use om_model::{Entry, Journal, Outcome, Transcript};
+use om_model::{Entry, Head, Journal, Outcome, Transcript};
 use om_pool::Pool;
 use std::alloc::Global;
 
@@ -152,6 +153,15 @@ fn write_back<K: Sink>(
     Ok(())
 }
 
+// Every number that is told is one that its type holds.
+fn numbers_fit(head: &Head, journal: &Journal, _name: &[u8], transcript: &Transcript)
+    ensures { IsInRange (content head.now journal.now.items _name.now transcript.now) }
+{
+    head.fits();
+    journal.fits();
+    transcript.fits();
+}
+
 /// Writes the whole output of the one pool under a head and a script with this transcript.
 pub(crate) fn write_output<K: Sink>(
     alloc: Global,
@@ -167,8 +177,10 @@ pub(crate) fn write_output<K: Sink>(
     ensures front { OnErr result (AppendsFront (K.written sink.old) (K.written sink.new)
         (text_of (content head.now pool.now.journal.items name.now transcript.now))) }
     ensures cause { IsErrOf result WriteStop.Failed → K.faults sink.old < K.faults sink.new }
+    ensures numbers { IsInRange (content head.now pool.now.journal.items name.now transcript.now) }
     ensures counted { K.faults sink.old ≤ K.faults sink.new }
 {
+    numbers_fit(head, pool.journal(), name, transcript);
     let mut buffer = Vec::new(alloc);
     write_front(sink, &mut buffer, head, pool)?;
     write_back(sink, &mut buffer, name, transcript)?;

@@ -7,10 +7,9 @@ ghost use Rattle.omalloc.specs.Heads.{IsHead};
 ghost use Rattle.omalloc.specs.Run.{IsCommandRun, RanAlone};
 ghost use Rattle.omalloc.specs.Script.{IsScript, IsCommand};
 
-use crate::head::Head;
 use crate::script::Script;
 use om_geom::Addr;
-use om_model::{Command, Fault, Op, Outcome, Reply, Transcript, Who};
+use om_model::{Command, Fault, Head, Op, Outcome, Reply, Transcript, Who};
 use om_pool::Pool;
 use std::alloc::{AllocError, Global};
 use std::sync::Wait;

@@ -1,5 +1,7 @@
 //! Whole runs, over sources and sinks in memory. The expected texts are computed by hand.
 
+mod plain;
+
 use crate::call::omalloc;
 use crate::gate::NoGate;
 use crate::refusal::Refusal;

@@ -9,7 +9,7 @@ ghost use Rattle.omalloc.specs.Heads.{IsHead};
 ghost use Rattle.om_words.specs.declared.plan.WordPlan.TheVariants.{Listed, Seeded};
 
 use crate::bytes::{are_digits, capped_number, cut_at};
-use crate::head::Head;
+use om_model::Head;
 use om_opts::{Opts, parse};
 use om_words::{WordList, WordPlan};
 use std::alloc::{AllocError, Global};

@@ -9,8 +9,9 @@ ghost use Rattle.om_model.specs.declared.operation.Op.TheVariants.{Malloc};
 
 use super::pages::with_page;
 use super::picks::{own_page, picked_place, place_address};
-use super::states::{Answer, State, Wish, two_words};
+use super::states::{Answer, State, Wish};
 use crate::block::Block;
+use crate::drawn::Drawn;
 use crate::entry::Move;
 use crate::reply::{Fault, Reply, Why};
 use om_geom::class_of;
@@ -68,7 +69,7 @@ impl State {
         let reply = self.placed_where(own, claim, class, second, size, site)?;
         Ok(Answer {
             reply,
-            words: two_words(first, second),
+            words: Drawn::two(first, second),
             release: None,
             wish: wish_unless(own, first),
         })

@@ -7,7 +7,7 @@ ghost use Rattle.om_model.specs.Free.{free as free_step, free_on as free_on_step
 ghost use Rattle.om_model.specs.SlowStates.{rules_in, state_in, Makes, Releases};
 
 use super::pages::{chunk_class, free_pages, holds, is_among, is_free_page, page_at, without_page};
-use super::states::{Answer, Run, State, delayed, one_word};
+use super::states::{Answer, Run, State, delayed};
 use crate::block::{Block, Place};
 use crate::drawn::Drawn;
 use crate::reply::{Fault, Reply};
@@ -67,7 +67,7 @@ impl State {
         let slot = slot_at(&self.slots, word as usize % 16);
         Answer {
             reply: reply_again(self.opts.freecheck || slot_holds(slot, address)),
-            words: one_word(word),
+            words: Drawn::one(word),
             release: None,
             wish: None,
         }
@@ -87,7 +87,7 @@ impl State {
         let release = self.evicted(before)?;
         Ok(Answer {
             reply: Reply::Done,
-            words: one_word(word),
+            words: Drawn::one(word),
             release,
             wish: None,
         })

@@ -61,7 +61,7 @@ fn are_in_order(alloc: Global, journal: &Journal) -> Result<bool, AllocError>
 }
 
 // The numbers of the phases that the journal enters.
-fn phases_of(alloc: Global, journal: &Journal) -> Result<Vec<u64>, AllocError>
+pub(super) fn phases_of(alloc: Global, journal: &Journal) -> Result<Vec<u64>, AllocError>
     ensures { IfOk result (λ phases. phases.items ≡ phase_numbers journal.now.items) }
 {
     let mut phases = Vec::new(alloc);
@@ -74,7 +74,7 @@ fn phases_of(alloc: Global, journal: &Journal) -> Result<Vec<u64>, AllocError>
 }
 
 // The numbers from 1 on.
-fn counted(alloc: Global, count: u64) -> Result<Vec<u64>, AllocError>
+pub(super) fn counted(alloc: Global, count: u64) -> Result<Vec<u64>, AllocError>
     ensures { IfOk result (λ numbers. numbers.items ≡ range_with_len 1 count) }
 {
     let mut numbers = Vec::new(alloc);
@@ -84,7 +84,7 @@ fn counted(alloc: Global, count: u64) -> Result<Vec<u64>, AllocError>
     Ok(numbers)
 }
 
-fn are_same(entered: &[u64], counted: &[u64]) -> bool
+pub(super) fn are_same(entered: &[u64], counted: &[u64]) -> bool
     ensures { IsTrue result ↔ (entered.now ≡ counted.now) }
 {
     entered == counted

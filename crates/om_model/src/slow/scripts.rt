@@ -4,16 +4,9 @@ ghost use Rattle.om_model.specs.ScriptRun.{op_of as op_at, missed as missed_by, 
 ghost use Rattle.om_model.specs.SlowScripts.{ran_in};
 
 use crate::command::Command;
-use crate::operation::Op;
+use crate::operation::{Call, Op};
 use crate::reply::{Fault, Outcome, Reply, Segv};
 use std::alloc::{AllocError, Global};
-
-/// A call that a script makes, by the number of its command from 1 on.
-#[derive(Clone, Copy, Debug, PartialEq, Eq)]
-pub struct Call {
-    pub command: u32,
-    pub op: Op,
-}
 
 /// The calls that a script makes, and its transcript.
 #[derive(Drop)]
@@ -133,7 +126,7 @@ fn outcome_of(op: Op, reply: Reply) -> Outcome
     }
 }
 
-fn is_fault(outcome: Outcome) -> bool
+pub(super) fn is_fault(outcome: Outcome) -> bool
     ensures { result ≡ is_fault_outcome outcome }
 {
     matches!(outcome, Outcome::Fault(_))

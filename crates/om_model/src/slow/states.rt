@@ -1,5 +1,5 @@
 //! A state, the rules by which it goes on, and the places in use.
-ghost use Rattle.std.specs.Prelude.{◌≡◌, ◌^◌, ◌<◌, [], ◌∷◌, IfOk};
+ghost use Rattle.std.specs.Prelude.{◌≡◌, ◌^◌, ◌<◌, IfOk};
 ghost use Rattle.om_model.specs.Rules.{word_at};
 ghost use Rattle.om_model.specs.PoolState.{opening as opening_state, chunk_of as chunk_in, places_in as places_of, places as places_at, delayed as delayed_in};
 ghost use Rattle.om_model.specs.SlowStates.{rules_in, state_in, with_drawn};
@@ -126,21 +126,4 @@ pub fn places_in(
         .filter_map(|block| chunk_of(canary, block))
         .chain(slots.iter().filter_map(|slot| *slot))
         .collect(alloc)
-}
-
-pub(super) fn one_word(word: u32) -> Drawn
-    ensures { result ≡ word ∷ [] }
-{
-    let mut words = Drawn::empty();
-    words.push(word);
-    words
-}
-
-pub(super) fn two_words(first: u32, second: u32) -> Drawn
-    ensures { result ≡ first ∷ second ∷ [] }
-{
-    let mut words = Drawn::empty();
-    words.push(first);
-    words.push(second);
-    words
 }

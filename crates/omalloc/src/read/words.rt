@@ -3,7 +3,8 @@
 ghost use Rattle.std.specs.Prelude.{◌≡◌, ◌<◌, [], ◌∷◌, length, IfSome, MatchOption};
 ghost use Rattle.std.specs.List.{list_all};
 ghost use Rattle.std.specs.Option.{option_map, option_copied};
-ghost use Rattle.omalloc.specs.AcceptedInput.{text_lines, words_of, is_letter, is_name_byte, is_name, size_of, title_of, request_of};
+ghost use Rattle.omalloc.specs.AcceptedInput.{text_lines, words_of, size_of, title_of, request_of};
+ghost use Rattle.omalloc.specs.Script.{is_letter, is_name_byte, is_name};
 
 use crate::bytes::{are_digits, capped_number, cut_at, first_place, is_digit};
 use crate::script::Request;

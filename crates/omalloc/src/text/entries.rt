@@ -1,7 +1,7 @@
 ghost use Rattle.std.specs.Prelude.{◌≡◌, ◌<◌, ◌++◌, codes, decimal, take, length, OnOk, Option};
 ghost use Rattle.std.specs.List.{flat_map};
 ghost use Rattle.om_model.specs.OutputText.{who_text, word_text, words_text, look_text, looks_text, taken_text, move_text, claim_text, release_text, call_text, entry_text};
-ghost use Rattle.omalloc.specs.Report.{entry_line};
+ghost use Rattle.om_model.specs.TextParts.{entry_line};
 
 use super::answers::{push_op, push_reply};
 use super::numbers::push_decimal;

@@ -1,12 +1,11 @@
 ghost use Rattle.std.specs.Prelude.{◌≡◌, ◌++◌, map, codes, decimal, OnOk};
 ghost use Rattle.std.specs.List.{flat_map, join_with_byte};
 ghost use Rattle.om_model.specs.OutputText.{head_lines, flag, flags_text, plan_text, byte_text, outcome_line, ending_line, ended_line};
-ghost use Rattle.omalloc.specs.Report.{warned_line};
+ghost use Rattle.om_model.specs.TextParts.{warned_line};
 
 use super::answers::push_outcome;
 use super::numbers::{push_byte, push_decimal};
-use crate::head::Head;
-use om_model::Outcome;
+use om_model::{Head, Outcome};
 use om_opts::Opts;
 use om_words::{WordList, WordPlan};
 use std::alloc::AllocError;

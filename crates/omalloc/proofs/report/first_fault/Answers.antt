@@ -1,6 +1,6 @@
 use Rattle.std.proofs.Common.{arith, ap}
 use Rattle.om_model.specs.ScriptRun.{is_fault}
-use Rattle.omalloc.proofs.Parts.{position_at, position_none}
+use Rattle.om_model.specs.ListLaws.{position_at, position_none}
 use Rattle.omalloc.proofs.report.first_fault.Goals as goal
 
 pub returns-in-Fault : goal.returns-in-Fault

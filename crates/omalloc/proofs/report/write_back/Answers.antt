@@ -3,7 +3,8 @@ use Rattle.std.specs.List.{flat_map, enumerate_from, position}
 use Rattle.om_io.specs.Sink.{AppendsFront}
 use Rattle.om_model.specs.ScriptRun.{is_fault}
 use Rattle.om_model.specs.OutputText.{ending_line, ended_line}
-use Rattle.omalloc.specs.Report.{numbered_line, Adds}
+use Rattle.om_model.specs.TextParts.{numbered_line}
+use Rattle.omalloc.specs.Report.{Adds}
 use Rattle.omalloc.proofs.AddsLaws.{Adds-buffered, Adds-both, AppendsFront-after, AppendsFront-more, AppendsFront-held, on_err}
 use Rattle.omalloc.proofs.WholeText.{back_text}
 use Rattle.omalloc.proofs.report.write_back.Goals as goal

@@ -1,5 +1,5 @@
 use Rattle.std.proofs.Common.{arith}
-use Rattle.omalloc.specs.Report.{entry_line}
+use Rattle.om_model.specs.TextParts.{entry_line}
 use Rattle.omalloc.proofs.AddsLaws.{Adds-next, AppendsFront-next, on_err}
 use Rattle.omalloc.proofs.report.write_entries.Goals as goal
 

@@ -1,6 +1,7 @@
 use Rattle.std.proofs.Common.{◌≤◌, take}
 use Rattle.std.specs.List.{flat_map}
-use Rattle.omalloc.specs.Report.{entry_line, Adds}
+use Rattle.om_model.specs.TextParts.{entry_line}
+use Rattle.omalloc.specs.Report.{Adds}
 use Rattle.omalloc.proofs.report.write_entries.Given as goal
 
 abbrev pub invariant-loop-i : goal.invariant-loop-i

@@ -4,7 +4,8 @@ use Rattle.std.proofs.lemmas.Result.{on_ok_weaker, on_err_weaker}
 use Rattle.om_io.specs.Sink.{AppendsFront}
 use Rattle.om_model.specs.OutputText.{head_lines, pool_title, ended_line}
 use Rattle.om_model.specs.Entries.{Entries}
-use Rattle.omalloc.specs.Report.{entry_line, front_of, Adds}
+use Rattle.om_model.specs.TextParts.{entry_line}
+use Rattle.omalloc.specs.Report.{front_of, Adds}
 use Rattle.omalloc.proofs.AddsLaws.{Adds-buffered, Adds-both, AppendsFront-none, AppendsFront-after, on_err}
 use Rattle.omalloc.proofs.Titles.{pool_title_text}
 use Rattle.omalloc.proofs.WholeText.{front_text}

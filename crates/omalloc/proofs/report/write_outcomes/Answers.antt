@@ -1,8 +1,9 @@
 use Rattle.std.proofs.Common.{arith, ◌+◌, subst, take, ℕ, ◌≡◌}
 use Rattle.std.specs.List.{flat_map, enumerate_from}
 use Rattle.om_model.specs.declared.reply.Outcome.{Outcome}
-use Rattle.omalloc.specs.Report.{numbered_line, Adds}
-use Rattle.omalloc.proofs.Parts.{slice_get-enumerate_from, take_enumerated}
+use Rattle.om_model.specs.TextParts.{numbered_line}
+use Rattle.omalloc.specs.Report.{Adds}
+use Rattle.om_model.specs.ListLaws.{slice_get-enumerate_from, take_enumerated}
 use Rattle.omalloc.proofs.AddsLaws.{Adds-next, AppendsFront-next, on_err}
 use Rattle.omalloc.proofs.report.write_outcomes.Goals as goal
 

@@ -1,6 +1,7 @@
 use Rattle.std.proofs.Common.{◌≤◌, take}
 use Rattle.std.specs.List.{flat_map, enumerate_from}
-use Rattle.omalloc.specs.Report.{numbered_line, Adds}
+use Rattle.om_model.specs.TextParts.{numbered_line}
+use Rattle.omalloc.specs.Report.{Adds}
 use Rattle.omalloc.proofs.report.write_outcomes.Given as goal
 
 abbrev pub invariant-loop-i : goal.invariant-loop-i

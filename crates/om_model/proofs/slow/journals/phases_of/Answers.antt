@@ -3,7 +3,7 @@ use Rattle.std.specs.List.{flat_map}
 use Rattle.om_model.specs.declared.entry.Entry.{Entry}
 use Rattle.std.proofs.lemmas.List.Concat.{flat_map-append}
 use Rattle.om_model.specs.LawfulJournal.{phases_in, phase_numbers}
-use Rattle.om_model.proofs.JournalSteps.{take-at}
+use Rattle.om_model.specs.ListLaws.{take_next}
 use Rattle.om_model.proofs.slow.journals.phases_of.Goals as goal
 use Rattle.om_model.proofs.slow.journals.phases_of.Goals.{in-Phase+in_ok-push, in_default}
 
@@ -12,7 +12,7 @@ loop-i-preserved c =
     let items = c.args.journal.now.items in
     let i = c.loop-i.i in
     let entry = c.entry.result.now in
-    let more = ap phase_numbers (take-at items i entry c.entry.ensures) ∙ flat_map-append phases_in (take i items) (entry ∷ []) in
+    let more = ap phase_numbers (take_next items i entry c.entry.ensures) ∙ flat_map-append phases_in (take i items) (entry ∷ []) in
     elim c.match-entry.branch [
       | in-Phase+in_ok-push w ↦
           let head = ap (λ (e : Entry). flat_map phases_in (e ∷ [])) w.in-Phase.is in

@@ -13,5 +13,5 @@ returns-clause-kept c =
     let seen = c.is_seen.ensures ∙ ap (λ (core : Core). core.opts.freecheck || slot_holds c.slot_at-slot.result c.args.address) drawn ∙ ap (λ s. old.opts.freecheck || slot_holds s c.args.address) slot in
     again-core old c.draw-word.new.self c.enter.new.self _ c.args.address c.is_seen.result c.reply_again-reply.result
     c.requires.kept c.requires.is seen c.reply_again-reply.ensures drawn c.enter.ensures.added c.enter.ensures.same
-    (record { op_is = refl; reply_is = refl; words = c.one_word.ensures ∙ ap (λ w. w ∷ []) c.draw-word.ensures.word; looks = c.empty.ensures; taken = refl; claim = refl })
+    (record { op_is = refl; reply_is = refl; words = c.one.ensures ∙ ap (λ w. w ∷ []) c.draw-word.ensures.word; looks = c.empty.ensures; taken = refl; claim = refl })
     refl

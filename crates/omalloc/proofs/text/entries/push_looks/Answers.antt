@@ -1,6 +1,6 @@
 use Rattle.std.proofs.Common.{◌++◌, ◌∙◌, ap}
 use Rattle.om_model.specs.OutputText.{look_text}
-use Rattle.omalloc.proofs.Parts.{flat_map_next}
+use Rattle.om_model.specs.ListLaws.{flat_map_next}
 use Rattle.omalloc.proofs.text.entries.push_looks.Goals as goal
 
 pub loop-i-preserved : goal.loop-i-preserved

@@ -1,6 +1,6 @@
 use Rattle.std.proofs.Common.{◌≡◌, ◌++◌, take}
 use Rattle.std.specs.List.{flat_map}
-use Rattle.omalloc.specs.Report.{warned_line}
+use Rattle.om_model.specs.TextParts.{warned_line}
 use Rattle.omalloc.proofs.text.titles.push_warnings.Given as goal
 
 abbrev pub invariant-loop-byte : goal.invariant-loop-byte

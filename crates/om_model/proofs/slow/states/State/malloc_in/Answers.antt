@@ -62,7 +62,7 @@ returns c =
     let both = two ∙ ap (with_drawn 1) one in
     let used = c.deref.ensures.value ∙ c.in_ok-used.ensures in
     let held = c.deref-2.ensures.value ∙ ap (λ (s : State). s.held.items) both in
-    makes old c.draw-second.new.self c.placed_where.new.self c.in_ok-own.own c.args.claim c.args.class c.draw-first.result c.draw-second.result c.args.size c.args.site c.in_ok-reply.reply c.two_words.result c.wish_unless.result
+    makes old c.draw-second.new.self c.placed_where.new.self c.in_ok-own.own c.args.claim c.args.class c.draw-first.result c.draw-second.result c.args.size c.args.site c.in_ok-reply.reply c.two.result c.wish_unless.result
     (ap rules_in both)
     (drawn-twice old c.draw-first.new.self c.draw-second.new.self one two)
     (c.in_ok-own.ensures
@@ -72,5 +72,5 @@ returns c =
     c.draw-first.ensures.word
     (c.draw-second.ensures.word ∙ ap (λ (s : State). word_at (rules_in s) s.words.place) one)
     c.in_ok-reply.ensures
-    c.two_words.ensures
+    c.two.ensures
     c.wish_unless.ensures

@@ -1,0 +1,7 @@
+use Rattle.std.proofs.Common.{take}
+use Rattle.std.specs.List.{AllByRecursion}
+use Rattle.om_model.specs.ScriptCalls.{CallerBelow}
+use Rattle.om_model.proofs.slow.calls.are_below.Given as goal
+
+abbrev pub invariant-loop-i : goal.invariant-loop-i
+invariant-loop-i l = AllByRecursion (CallerBelow l.callers) (take l.i l.journal.items)

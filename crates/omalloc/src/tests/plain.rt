@@ -1,0 +1,130 @@
+//! Whole runs, judged and written by the plain forms of the definitions.
+ghost use Rattle.omalloc.specs.Heads.{IsHead};
+ghost use Rattle.omalloc.specs.Script.{IsScript};
+
+use super::{answer_of, words_of};
+use crate::read::read;
+use crate::run::{Run, run_script};
+use crate::script::Script;
+use crate::status::Status;
+use crate::words::read_words;
+use om_model::{Head, Journal, Outcome, Told, Transcript, slow};
+use om_words::Words;
+use std::alloc::{AllocError, Global};
+use std::process::Abort;
+use std::slice;
+use std::sync::Wait;
+use std::test::Fail;
+use std::thread::Threads;
+
+// Commands over four names, chosen by the words of a seed. A block that is freed is mostly followed by
+// another, and else by a second free some time.
+fn script_text(rt: &impl Abort, alloc: Global, seed: u64, steps: u32) -> Result<String, Fail> {
+    let mut choices = Words::seeded(seed, 1);
+    let mut text = String::from_str(alloc, "script plain\n")?;
+    for _ in 0..steps {
+        assert!(rt; choices.place() < 1_000);
+        let choice = choices.draw();
+        let name = choice % 4;
+        let lines = match choice / 4 % 16 {
+            0 => format!(in alloc; "free v{name}\n")?,
+            1..=7 => format!(in alloc; "free v{name}\nmalloc v{name} 2048\n")?,
+            _ => format!(in alloc; "malloc v{name} 100\n")?,
+        };
+        text.push_str(lines.as_str())?;
+    }
+    text.push_str("end\n")?;
+    Ok(text)
+}
+
+fn outcomes_of(alloc: Global, transcript: &Transcript) -> Result<Vec<Outcome>, AllocError> {
+    let mut outcomes = Vec::new(alloc);
+    for i in 0..transcript.len() {
+        outcomes.push(*transcript.outcome(i))?;
+    }
+    Ok(outcomes)
+}
+
+// The outcomes are those of a run of the script with this journal, and without the last one they aren't.
+fn judge_script(
+    rt: &impl Abort,
+    alloc: Global,
+    script: &Script,
+    journal: &Journal,
+    transcript: &Transcript,
+) -> Result<(), Fail>
+    requires { IsScript script.now }
+{
+    let variables = script.variables() as u32;
+    let commands = script.commands();
+    let journals = slice::from_ref(journal);
+    let mut outcomes = outcomes_of(alloc, transcript)?;
+    let ran = slow::is_script_run(alloc, 1, 0, variables, commands, journals, &outcomes)?;
+    assert!(rt; ran);
+    assert!(rt; slow::only_callers(alloc, 1, 1, journal)?);
+    assert!(rt; outcomes.pop().is_some());
+    let ran = slow::is_script_run(alloc, 1, 0, variables, commands, journals, &outcomes)?;
+    assert!(rt; !ran);
+    Ok(())
+}
+
+// The journal is a run of one pool under the head: lawful to its end, with its moves in order and true looks.
+fn judge_pool(rt: &impl Abort, alloc: Global, head: &Head, journal: &Journal) -> Result<(), Fail>
+    requires { IsHead head.now }
+{
+    let words = head.plan.words(alloc, 0)?;
+    assert!(rt; slow::is_lawful(alloc, head.opts, head.zones, 0, words, journal)?);
+    let words = head.plan.words(alloc, 0)?;
+    let mut state = slow::State::opening(alloc, head.opts, head.zones, 0, words);
+    assert!(rt; state.follow_all(journal)?);
+    assert!(rt; state.is_well_formed()?);
+    let moves = slow::moves_of(alloc, slice::from_ref(journal))?;
+    assert!(rt; slow::is_zone_order(&moves));
+    assert!(rt; slow::are_looks(alloc, &moves, journal)?);
+    Ok(())
+}
+
+// The output for the words of a line and a text, by the plain forms.
+fn plain_output<R: Abort + Threads + Wait + Sync>(
+    rt: &R,
+    alloc: Global,
+    line: &str,
+    text: &str,
+) -> Result<Vec<u8>, Fail> {
+    assert!(rt; text.len() <= 16_777_216);
+    let words = words_of(alloc, line)?;
+    let head = read_words(alloc, &words)?;
+    let script = read(alloc, text.as_bytes())?;
+    let run = run_script(rt, alloc, &head, &script)?;
+    let Run {
+        pool,
+        transcript,
+        ..
+    } = run;
+    judge_script(rt, alloc, &script, pool.journal(), &transcript)?;
+    judge_pool(rt, alloc, &head, pool.journal())?;
+    let told = Told {
+        name: script.name().to_vec(alloc)?,
+        outcomes: transcript,
+    };
+    let journals = slice::from_ref(pool.journal());
+    Ok(slow::text_of(alloc, &head, journals, &[], &[told])?)
+}
+
+#[test]
+fn the_plain_forms_write_the_same(rt: HostRuntime) -> Result<(), Fail> {
+    let cases = [
+        ("run -w 0", Status::Faulted),
+        ("run -w 0,1,5", Status::Faulted),
+        ("run -o <<<<<<<QJ -s 7", Status::Finished),
+        ("run -s 3", Status::Finished),
+    ];
+    for (seed, (line, status)) in cases.iter().enumerate() {
+        let text = script_text(&rt, rt.alloc(), seed as u64, 40)?;
+        let written = plain_output(&rt, rt.alloc(), line, text.as_str())?;
+        let (answer, sink) = answer_of(&rt, rt.alloc(), line, text.as_str())?;
+        assert_eq!(rt; sink.bytes(), written.as_slice(), "{line}: {text}");
+        assert_eq!(rt; answer, *status, "{line}: {text}");
+    }
+    Ok(())
+}
