@@ -1,6 +1,6 @@
 #!/usr/bin/env bash
 # Runs the built program on scripts of 2,000, 20,000 and 200,000 commands, prints time and memory for each
-# command, and says whether the bounds hold. Status 1 where one doesn't. The command words are those given, or
+# command, and says whether the bounds hold. Status 1 where one doesn't. The arguments are those given, or
 # `run -w 0`.
 set -euo pipefail
 words=("$@")

@@ -1,8 +1,8 @@
 -- Addresses and pages back and forth, a page's zone and bit, and extents that share no byte.
-use Rattle.std.proofs.Common.{◌≡◌, ℕ, ◌+◌, ◌*◌, ◌<◌, ◌≤◌, ◌⊎◌, inl, inr, true, Some, None, ap, arith, nat_le, nat_lt, max}
-use Rattle.std.proofs.lemmas.Bool.{cases_Bool, and_parts, and_from, and_cases, leb-true, leb-false, le-leb, ltb-true, ltb-false, lt-ltb}
+use Rattle.std.proofs.Common.{◌≡◌, ℕ, ◌+◌, ◌*◌, ◌<◌, ◌≤◌, ◌⊎◌, inl, inr, true, Some, None, refl, sym, ◌∙◌, ap, arith, nat_eq, nat_le, nat_lt, max, min}
+use Rattle.std.proofs.lemmas.Bool.{cases_Bool, cases_eq, eq-eqb, ne_eqb, le-ltb, and_parts, and_from, and_cases, leb-true, leb-false, le-leb, ltb-true, ltb-false, lt-ltb}
 use Rattle.om_geom.specs.declared.address.Extent.{Extent}
-use Rattle.om_geom.specs.Addresses.{address_of, is_in_arena, page_at, page_of, zone_of, bit_of, SharesByte}
+use Rattle.om_geom.specs.Addresses.{address_of, is_in_arena, page_at, page_of, page_extent, zone_of, bit_of, shares_byte, SharesByte}
 use mathlib.Core.Logic.{⊎_elim}
 
 -- ---- pages and addresses
@@ -81,3 +81,17 @@ SharesByte-swap a b (byte, of_a, of_b) = (byte, of_b, of_a)
 -- extents that are neither empty nor one before the other share a byte
 pub SharesByte-from : (a b : Extent) → 0 < a.len → 0 < b.len → a.first < b.first + b.len → b.first < a.first + a.len → SharesByte a b
 SharesByte-from a b some_a some_b low high = (max a.first b.first, (omega arith, omega arith), (omega arith, omega arith))
+
+pub SharesByte-true : (a b : Extent) → shares_byte a b ≡ true → SharesByte a b
+SharesByte-true a b shares =
+    let below = ltb-true (max a.first b.first) (min (a.first + a.len) (b.first + b.len)) shares in (max a.first b.first, (omega arith, omega arith), (omega arith, omega arith))
+
+pub shares_byte-from : (a b : Extent) → SharesByte a b → shares_byte a b ≡ true
+shares_byte-from a b (byte, of_a, of_b) = lt-ltb (max a.first b.first) (min (a.first + a.len) (b.first + b.len)) (omega arith)
+
+-- an extent on one page shares bytes with that page alone
+pub shares_byte-page : (extent : Extent) (page : ℕ) → address_of page ≤ extent.first → 0 < extent.len → extent.first + extent.len ≤ address_of page + 4096 → (other : ℕ) → shares_byte (page_extent other) extent ≡ nat_eq page other
+shares_byte-page extent page from some to other = ⊎_elim
+    (λ same. lt-ltb _ _ (omega arith) ∙ sym (eq-eqb page other same))
+    (λ ne. le-ltb _ _ (omega arith) ∙ sym (ne_eqb page other ne))
+    (cases_eq page other)

@@ -38,9 +38,9 @@ stride-at_most_2048 = class-cases (λ class. stride_of class ≤ 2048) (lit≤ t
 pub stride-positive : (class : ℕ) → IsTrue (is_class class) → 0 < stride_of class
 stride-positive class given = omega (arith, stride-at_least_16 class given)
 
--- the places of a class fill a page
-pub places-whole : (class : ℕ) → IsTrue (is_class class) → places_of class * stride_of class ≡ 4096
-places-whole = class-cases (λ class. places_of class * stride_of class ≡ 4096) refl refl refl refl refl refl refl refl refl
+-- the places of a class have room on a page
+pub places-within : (class : ℕ) → IsTrue (is_class class) → places_of class * stride_of class ≤ 4096
+places-within = class-cases (λ class. places_of class * stride_of class ≤ 4096) (lit≤ tt) (lit≤ tt) (lit≤ tt) (lit≤ tt) (lit≤ tt) (lit≤ tt) (lit≤ tt) (lit≤ tt) (lit≤ tt)
 
 pub places-at_least_2 : (class : ℕ) → IsTrue (is_class class) → 2 ≤ places_of class
 places-at_least_2 = class-cases (λ class. 2 ≤ places_of class) (lit≤ tt) (lit≤ tt) (lit≤ tt) (lit≤ tt) (lit≤ tt) (lit≤ tt) (lit≤ tt) (lit≤ tt) (lit≤ tt)
@@ -50,7 +50,7 @@ places-at_most_256 = class-cases (λ class. places_of class ≤ 256) (lit≤ tt)
 
 -- each place lies on the page
 pub place-within : (class place : ℕ) → IsTrue (is_class class) → place < places_of class → place * stride_of class + stride_of class ≤ 4096
-place-within class place given lt = omega (arith, places-whole class given, mul-le-mul_right (stride_of class) lt)
+place-within class place given lt = omega (arith, places-within class given, mul-le-mul_right (stride_of class) lt)
 
 -- ---- the class of a size
 

@@ -1,10 +1,11 @@
 -- Size classes. Class 0 is for size 0. A greater size has the least class from 16 to 2048 that holds it,
 -- with one byte more where canaries are written. What no class holds is a block of whole pages.
-use Rattle.std.specs.Prelude.{ℕ, ◌+◌, ◌/◌, Bool, ◌||◌, if◌then◌else◌, ◌==◌, nat_eq, nat_le, Option, Some, List, [], ◌∷◌}
+use Rattle.std.specs.Prelude.{ℕ, ◌+◌, ◌-◌, ◌/◌, Bool, ◌||◌, if◌then◌else◌, ◌==◌, nat_eq, nat_le, Option, Some, List, [], ◌∷◌}
 use Rattle.std.specs.List.{find, list_any}
+use Rattle.om_geom.specs.Numbers.{page_size, largest_class}
 
 abbrev pub chunk_classes : List ℕ
-chunk_classes = 16 ∷ 32 ∷ 64 ∷ 128 ∷ 256 ∷ 512 ∷ 1024 ∷ 2048 ∷ []
+chunk_classes = 16 ∷ 32 ∷ 64 ∷ 128 ∷ 256 ∷ 512 ∷ 1024 ∷ largest_class ∷ []
 
 abbrev pub is_class : ℕ → Bool
 is_class class = class == 0 || list_any (nat_eq class) chunk_classes
@@ -23,8 +24,8 @@ stride_of class = if class == 0 then 16 else class
 
 -- how many places a page of the class has
 abbrev pub places_of : ℕ → ℕ
-places_of class = 4096 / stride_of class
+places_of class = page_size / stride_of class
 
 -- how many pages hold so many bytes
 abbrev pub data_pages : ℕ → ℕ
-data_pages size = (size + 4095) / 4096
+data_pages size = (size + (page_size - 1)) / page_size

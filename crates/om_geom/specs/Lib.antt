@@ -1,4 +1,5 @@
 pub mod Addresses
+pub mod Numbers
 pub mod AddressLaws
 pub mod Classes
 pub mod ClassLaws

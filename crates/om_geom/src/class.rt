@@ -1,12 +1,18 @@
 ghost use Rattle.std.specs.Prelude.{◌≡◌, ◌*◌, ◌≤◌, IsTrue, IfSome};
 ghost use Rattle.std.specs.Option.{option_map};
 ghost use Rattle.om_geom.specs.Classes.{class_of, least_class, is_class, data_pages, stride_of, places_of};
+ghost use Rattle.om_geom.specs.Numbers.{page_size, largest_class};
+
+use crate::address::PAGE_SIZE;
+
+/// The greatest class, in bytes.
+pub const LARGEST_CLASS: u32 = 2048;
 
 /// A size class: 0, or the bytes of each of its places, 16 to 2048.
 #[derive(Clone, Copy, Debug, PartialEq, Eq, PartialOrd, Ord, Hash)]
 pub struct Class(pub u32);
 
-const CHUNK_CLASSES: [u32; 8] = [16, 32, 64, 128, 256, 512, 1024, 2048];
+const CHUNK_CLASSES: [u32; 8] = [16, 32, 64, 128, 256, 512, 1024, LARGEST_CLASS];
 
 /// The class of a size in bytes, with canaries or without; none for a page block.
 pub fn class_of(size: u64, canary: bool) -> Option<Class>
@@ -16,7 +22,7 @@ pub fn class_of(size: u64, canary: bool) -> Option<Class>
     if size == 0 {
         return Some(Class(0));
     }
-    if size > 2048 {
+    if size > u64::from(LARGEST_CLASS) {
         return None;
     }
     let bytes = if canary { size as u32 + 1 } else { size as u32 };
@@ -33,7 +39,7 @@ fn least_class(bytes: u32) -> Option<u32>
 pub fn pages_of(size: u64) -> u64
     ensures { result ≡ data_pages size }
 {
-    size.div_ceil(4096)
+    size.div_ceil(u64::from(PAGE_SIZE))
 }
 
 /// The bytes from the start of one place of a class to the start of the next.
@@ -41,7 +47,7 @@ pub fn stride(class: Class) -> u32
     requires { IsTrue (is_class class.0) }
     ensures value { result ≡ stride_of class.0 }
     ensures at_least_16 { 16 ≤ result }
-    ensures at_most_2048 { result ≤ 2048 }
+    ensures at_most_2048 { result ≤ largest_class }
 {
     if class.0 == 0 { 16 } else { class.0 }
 }
@@ -52,9 +58,9 @@ pub fn places(class: Class) -> u32
     ensures value { result ≡ places_of class.0 }
     ensures at_least_2 { 2 ≤ result }
     ensures at_most_256 { result ≤ 256 }
-    ensures whole_page { result * stride_of class.0 ≡ 4096 }
+    ensures on_page { result * stride_of class.0 ≤ page_size }
 {
-    4096 / stride(class)
+    PAGE_SIZE / stride(class)
 }
 
 #[cfg(test)]

@@ -27,7 +27,8 @@ pub fn set_run(bits: u32, first: u32, n: u32) -> u32
 pub fn clear_run(bits: u32, first: u32, n: u32) -> u32
     requires some_bit { 1 ≤ n }
     requires within { first + n ≤ 32 }
-    ensures bits { (i : ℕ) → i < 32 → has_bit result i ≡ (has_bit bits i && not (is_in_run first n i)) }
+    ensures bits { (i : ℕ) → i < 32
+        → has_bit result i ≡ (has_bit bits i && not (is_in_run first n i)) }
 {
     bits & !run_mask(first, n)
 }

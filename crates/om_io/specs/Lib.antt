@@ -1,3 +1,6 @@
+pub mod Counts
 pub mod Source
 pub mod Sink
 pub mod Memory
+pub mod Buffered
+pub mod BufferedLaws

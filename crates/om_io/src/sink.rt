@@ -1,6 +1,6 @@
 //! Where bytes go.
 ghost use Rattle.std.specs.Prelude.{◌≡◌, ℕ, ◌<◌, ◌≤◌, Option, List, length, take, IfOk, IsErrOf, OnErr, OnOk};
-ghost use Rattle.om_io.specs.Sink.{Appends, AppendsFront};
+ghost use Rattle.om_io.specs.Sink.{Appends, Writes};
 
 use std::alloc::AllocError;
 use thiserror::Error;
@@ -38,22 +38,37 @@ pub trait Sink {
     fn write(&mut self, piece: &[u8]) -> Result<usize, WriteStop>
         requires { 0 < length piece.now }
         ensures count { IfOk result (λ n. (1 ≤ n) × (n ≤ length piece.now)) }
-        ensures added { IfOk result (λ n. Appends (written self.old) (written self.new) (take n piece.now)) }
-        ensures cause { IsErrOf result WriteStop.Failed → faults self.old < faults self.new }
+        ensures added { IfOk result (λ n.
+            Appends (written self.old) (written self.new) (take n piece.now)) }
         ensures kept { OnErr result (written self.new ≡ written self.old) }
-        ensures counted { faults self.old ≤ faults self.new };
+        ensures still { OnOk result (faults self.new ≡ faults self.old) }
+        ensures cause { IsErrOf result WriteStop.Failed → faults self.old < faults self.new }
+        ensures memory { IsErrOf result WriteStop.Memory → faults self.new ≡ faults self.old };
 }
 
-/// Writes all the bytes, in as many pieces as the sink asks for.
-pub fn write_all<K: Sink>(sink: &mut K, bytes: &[u8]) -> Result<(), WriteStop>
-    ensures added { OnOk result (Appends (K.written sink.old) (K.written sink.new) bytes.now) }
-    ensures front { OnErr result (AppendsFront (K.written sink.old) (K.written sink.new) bytes.now) }
-    ensures cause { IsErrOf result WriteStop.Failed → K.faults sink.old < K.faults sink.new }
-    ensures counted { K.faults sink.old ≤ K.faults sink.new }
+// Writes the bytes in as many pieces as the sink asks for, and says how many of them it took.
+pub(crate) fn write_front<K: Sink>(sink: &mut K, bytes: &[u8]) -> (usize, Result<(), WriteStop>)
+    ensures within { result.0 ≤ length bytes.now }
+    ensures added { Appends (K.written sink.old) (K.written sink.new) (take result.0 bytes.now) }
+    ensures all { OnOk result.1 (result.0 ≡ length bytes.now) }
+    ensures part { IsErrOf result.1 WriteStop.Failed → result.0 < length bytes.now }
+    ensures still { OnOk result.1 (K.faults sink.new ≡ K.faults sink.old) }
+    ensures cause { IsErrOf result.1 WriteStop.Failed → K.faults sink.old < K.faults sink.new }
+    ensures memory { IsErrOf result.1 WriteStop.Memory → K.faults sink.new ≡ K.faults sink.old }
 {
     let mut done = 0;
     while done < bytes.len() {
-        done += sink.write(&bytes[done..])?;
+        match sink.write(&bytes[done..]) {
+            Ok(count) => done += count,
+            Err(stop) => return (done, Err(stop)),
+        }
     }
-    Ok(())
+    (done, Ok(()))
+}
+
+/// Writes all the bytes, in as many pieces as the sink asks for. A failed write isn't tried again.
+pub fn write_all<K: Sink>(sink: &mut K, bytes: &[u8]) -> Result<(), WriteStop>
+    ensures { Writes K.written K.faults sink.old sink.new bytes.now result }
+{
+    write_front(sink, bytes).1
 }

@@ -1,11 +1,11 @@
 //! Where bytes come from.
 ghost use Rattle.std.specs.Prelude.{◌≡◌, ℕ, ◌<◌, ◌≤◌, ◌↔◌, Option, None, Some, List, [], length, take, IfOk, IfSome, IsErr, IsErrOf, OnErr, OnOk, is_some, vec_len};
-ghost use Rattle.om_io.specs.Source.{Gives};
+ghost use Rattle.om_io.specs.Source.{Gives, input_limit};
 
 use std::alloc::{AllocError, Global};
 use thiserror::Error;
 
-/// The most bytes that `read_all` reads.
+/// The most bytes that an input may have.
 pub const INPUT_LIMIT: usize = 16_777_216;
 
 const BUFFER_SIZE: usize = 4096;
@@ -56,32 +56,35 @@ pub trait Source {
     // How many reads have failed so far.
     ghost faults: { Self → ℕ };
 
-    /// Puts the next bytes at the front of the buffer, and says how many: 0 at the end of the input.
+    /// Puts the next bytes at the front of the buffer, and says how many: 0 at the end of the
+    /// input.
     fn read(&mut self, buf: &mut [u8]) -> Result<usize, Failed>
         requires { 0 < length buf.old }
         ensures count { IfOk result (λ n. n ≤ length buf.new) }
         ensures given { IfOk result (λ n. Gives (left self.old) (left self.new) (take n buf.new)) }
         ensures end { IfOk result (λ n. IfSome (left self.old) (λ bytes. (n ≡ 0) ↔ (bytes ≡ []))) }
-        ensures cause { OnErr result (faults self.old < faults self.new) }
         ensures kept { OnErr result (left self.new ≡ left self.old) }
         ensures still { OnOk result (faults self.new ≡ faults self.old) }
-        ensures counted { faults self.old ≤ faults self.new }
+        ensures cause { OnErr result (faults self.old < faults self.new) }
         ensures buffer { length buf.new ≡ length buf.old };
 }
 
 /// Reads to the end of the input. Reading stops as soon as more than `INPUT_LIMIT` bytes came.
 pub fn read_all<S: Source>(alloc: Global, source: &mut S) -> Result<Vec<u8>, ReadStop>
-    ensures bytes { IfOk result (λ bytes. IfSome (S.left source.old) (λ input. bytes.items ≡ input)) }
+    ensures bytes { IfOk result (λ bytes.
+        IfSome (S.left source.old) (λ input. bytes.items ≡ input)) }
     ensures end { OnOk result (IfSome (S.left source.old) (λ _. S.left source.new ≡ Some [])) }
-    ensures within { IfOk result (λ bytes. vec_len bytes ≤ INPUT_LIMIT) }
-    ensures fault { IsErrOf result ReadStop.ReadFault → S.faults source.old < S.faults source.new }
-    ensures too_long { IsErrOf result ReadStop.TooLong → IfSome (S.left source.old) (λ input. INPUT_LIMIT < length input) }
-    ensures limit { IfSome (S.left source.old) (λ input. INPUT_LIMIT < length input → IsErr result) }
-    ensures none_failed { OnOk result (S.faults source.new ≡ S.faults source.old) }
-    ensures long_none_failed { IsErrOf result ReadStop.TooLong → S.faults source.new ≡ S.faults source.old }
+    ensures within { IfOk result (λ bytes. vec_len bytes ≤ input_limit) }
+    ensures limit { IfSome (S.left source.old) (λ input.
+        input_limit < length input → IsErr result) }
+    ensures too_long { IsErrOf result ReadStop.TooLong
+        → IfSome (S.left source.old) (λ input. input_limit < length input) }
     ensures taken { (taken : List ℕ) × Gives (S.left source.old) (S.left source.new) taken }
     ensures told { is_some (S.left source.new) ≡ is_some (S.left source.old) }
-    ensures counted { S.faults source.old ≤ S.faults source.new }
+    ensures still { OnOk result (S.faults source.new ≡ S.faults source.old) }
+    ensures long { IsErrOf result ReadStop.TooLong → S.faults source.new ≡ S.faults source.old }
+    ensures memory { IsErrOf result ReadStop.Memory → S.faults source.new ≡ S.faults source.old }
+    ensures cause { IsErrOf result ReadStop.ReadFault → S.faults source.old < S.faults source.new }
 {
     let mut bytes = Vec::new(alloc);
     let mut buffer = [0; BUFFER_SIZE];

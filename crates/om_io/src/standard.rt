@@ -1,5 +1,8 @@
-//! Sources and sinks over std's readers and writers. What std does with the bytes is trusted.
-ghost use Rattle.std.specs.Prelude.{◌≡◌, None};
+//! Sources and sinks over std's readers and writers. Those of a file or a terminal tell nothing of
+//! their bytes, so neither does what stands over them.
+ghost use Rattle.std.specs.Prelude.{◌≡◌, ◌+◌, ◌<◌, ◌≤◌, None, length, IfOk, IsErrOf, OnErr, OnOk};
+ghost use Rattle.std.specs.Io.KnownBytes.{ReadConsumes, WriteAppends};
+ghost use Rattle.om_io.specs.Counts.{last_number};
 
 use super::sink::{Sink, WriteStop};
 use super::source::{Failed, Source};
@@ -13,9 +16,9 @@ pub struct StdSource<R> {
 }
 
 impl<R: Read> StdSource<R> {
-    /// No read has failed yet. Each error of the reader counts as one failure, an interrupted read too.
-    /// After 2^64 - 1 of them, which can't be counted further, the reader isn't asked any more, and each
-    /// read answers the end of the input.
+    /// No read has failed yet. Each error of the reader counts as one failure, an interrupted read
+    /// too. After 2^64 - 1 of them, which can't be counted further, the reader isn't asked any more,
+    /// and each read answers the end of the input.
     pub fn new(inner: R) -> Self
         ensures { ⟦<StdSource<R> as Source>⟧.faults result ≡ 0 }
     {
@@ -28,7 +31,15 @@ impl<R: Read> Source for StdSource<R> {
 
     ghost faults = { λ source. source.faults };
 
-    fn read(&mut self, buf: &mut [u8]) -> Result<usize, Failed> {
+    fn read(&mut self, buf: &mut [u8]) -> Result<usize, Failed>
+        requires { 0 < length buf.old }
+        ensures inner { self.old.faults < last_number → ReadConsumes (R.remaining self.old.inner)
+            (R.remaining self.new.inner) result buf.new }
+        ensures count { IfOk result (λ n. n ≤ length buf.new) }
+        ensures still { OnOk result (self.new.faults ≡ self.old.faults) }
+        ensures cause { OnErr result (self.new.faults ≡ self.old.faults + 1) }
+        ensures buffer { length buf.new ≡ length buf.old }
+    {
         let Some(faults) = self.faults.checked_add(1) else {
             return Ok(0);
         };
@@ -50,9 +61,9 @@ pub struct StdSink<W> {
 }
 
 impl<W: Write> StdSink<W> {
-    /// No write has failed yet. Each error of the writer counts as one failure, and so does a write that
-    /// takes nothing. After 2^64 - 1 of them, which can't be counted further, the writer isn't asked any
-    /// more, and each write answers `Memory`.
+    /// No write has failed yet. Each error of the writer counts as one failure, and so does a write
+    /// that takes nothing. After 2^64 - 1 of them, which can't be counted further, the writer isn't
+    /// asked any more, and each write answers `Memory`.
     pub fn new(inner: W) -> Self
         ensures { ⟦<StdSink<W> as Sink>⟧.faults result ≡ 0 }
     {
@@ -65,7 +76,16 @@ impl<W: Write> Sink for StdSink<W> {
 
     ghost faults = { λ sink. sink.faults };
 
-    fn write(&mut self, piece: &[u8]) -> Result<usize, WriteStop> {
+    fn write(&mut self, piece: &[u8]) -> Result<usize, WriteStop>
+        requires { 0 < length piece.now }
+        ensures inner { WriteAppends (W.contents self.old.inner) (W.contents self.new.inner) result
+            piece.now }
+        ensures count { IfOk result (λ n. (1 ≤ n) × (n ≤ length piece.now)) }
+        ensures still { OnOk result (self.new.faults ≡ self.old.faults) }
+        ensures cause { IsErrOf result WriteStop.Failed → self.new.faults ≡ self.old.faults + 1 }
+        ensures memory { IsErrOf result WriteStop.Memory → self.new.faults ≡ self.old.faults }
+        ensures full { IsErrOf result WriteStop.Memory → self.old.faults ≡ last_number }
+    {
         let Some(faults) = self.faults.checked_add(1) else {
             return Err(WriteStop::Memory);
         };

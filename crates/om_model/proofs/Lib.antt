@@ -1,8 +1,18 @@
-mod AnsweredCalls
-mod Apart
-mod CallsRead
-mod Followed
-mod JournalSteps
-mod OrderedMoves
-mod SameValues
-mod Texts
+pub mod Each
+pub mod Free
+pub mod Held
+pub mod HexDigits
+pub mod Journals
+pub mod Lawful
+pub mod Lists
+pub mod Malloc
+pub mod OrderedMoves
+pub mod Places
+pub mod PlainCalls
+pub mod PlainExtents
+pub mod PlainJournals
+pub mod PlainText
+pub mod PlainValues
+pub mod Sound
+pub mod Steps
+pub mod Titles

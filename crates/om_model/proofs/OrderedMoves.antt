@@ -4,10 +4,13 @@ use Rattle.std.specs.List.{slice_get, AllByRecursion}
 use Rattle.std.proofs.lemmas.Bool.{cases_Bool, eqb-true}
 use Rattle.std.proofs.lemmas.List.Sums.{sum_by-cons}
 use mathlib.Core.Logic.{⊎_elim}
-use Rattle.om_model.specs.ZoneOrder.{last_version, IsLawfulMove, IsZoneOrder}
-use Rattle.om_model.specs.SlowMoves.{IsNumbered, IsInOrder}
-use Rattle.om_model.specs.EachLaws.{all-weaker, all-get}
+use Rattle.om_model.specs.Zones.Order.{last_version, IsNumbered, IsLawfulMove, IsZoneOrder}
+use Rattle.om_model.proofs.Each.{all-weaker, all-get}
 use Rattle.om_model.specs.declared.entry.ZoneMove.{ZoneMove}
+
+-- the move's zone is numbered, and the move is lawful
+abbrev pub IsInOrder : List ZoneMove → ZoneMove → Type 0
+IsInOrder moves m = IsNumbered moves m.made.zone × IsLawfulMove moves m
 
 abbrev tally : Bool → ℕ
 tally b = cond b 1 0
@@ -25,14 +28,11 @@ with-moves P zone (m ∷ moves) all some = ⊎_elim
 
 pub from-each : (moves : List ZoneMove) → AllByRecursion (IsInOrder moves) moves → IsZoneOrder moves
 from-each moves all =
-    let numbered = all-weaker (IsInOrder moves) (λ m. IsNumbered moves m.made.zone) moves (λ m is. is.numbered) all in
+    let numbered = all-weaker (IsInOrder moves) (λ m. IsNumbered moves m.made.zone) moves (λ m is. is.0) all in
     record {
       once = λ zone version low high. with-moves (IsNumbered moves) zone moves numbered (omega arith) version low high;
-      lawful = all-weaker (IsInOrder moves) (IsLawfulMove moves) moves (λ m is. is.lawful) all;
+      lawful = all-weaker (IsInOrder moves) (IsLawfulMove moves) moves (λ m is. is.1) all;
     }
 
 pub at-each : (moves : List ZoneMove) (i : ℕ) (m : ZoneMove) → slice_get moves i ≡ Some m → IsZoneOrder moves → IsInOrder moves m
-at-each moves i m found order = record {
-  numbered = λ version low high. order.once m.made.zone version low high;
-  lawful = all-get (IsLawfulMove moves) moves i m order.lawful found;
-}
+at-each moves i m found order = (order.once m.made.zone, all-get (IsLawfulMove moves) moves i m order.lawful found)

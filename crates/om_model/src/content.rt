@@ -1,4 +1,4 @@
-ghost use Rattle.om_model.specs.OutputRanges.{FitsHead};
+ghost use Rattle.om_model.specs.Output.Ranges.{FitsHead};
 
 use crate::ranges::{bytes_fit, options_fit, plan_fits};
 use crate::transcript::Transcript;
@@ -20,11 +20,16 @@ pub struct Head {
 }
 
 impl Model for Head {
-    ghost use Rattle.om_model.specs.OutputText;
+    ghost use Rattle.om_model.specs.Output.Head;
 
-    ghost Value = { OutputText.Head };
+    ghost Value = { Head.Head };
 
-    ghost view = { λ h. record { options = h.opts; zones = h.zones; plan = h.plan; warned = h.warned.items } };
+    ghost view = { λ h. record {
+      options = h.opts;
+      zones = h.zones;
+      plan = h.plan;
+      warned = h.warned.items;
+    } };
 }
 
 impl Head {
@@ -46,9 +51,9 @@ pub struct Told {
 }
 
 impl Model for Told {
-    ghost use Rattle.om_model.specs.OutputText;
+    ghost use Rattle.om_model.specs.Output.Content;
 
-    ghost Value = { OutputText.Told };
+    ghost Value = { Content.Told };
 
     ghost view = { λ t. record { name = t.name.items; outcomes = t.outcomes } };
 }

@@ -1,6 +1,6 @@
 ghost use Rattle.std.specs.Prelude.{◌≡◌, ◌<◌, ◌≤◌, ◌==◌, [], ◌∷◌, ◌++◌, length, slice_get};
 ghost use Rattle.std.specs.List.{AllByRecursion};
-ghost use Rattle.om_model.specs.Ranges.{IsU32};
+ghost use Rattle.om_model.specs.Data.Ranges.{IsU32};
 
 use crate::ranges::words_fit;
 use std::marker::Model;

@@ -2,6 +2,7 @@ use crate::drawn::Drawn;
 use crate::looks::{Look, LookList};
 use crate::operation::{Op, Who};
 use crate::reply::Reply;
+use std::marker::Model;
 
 /// A claim or a release: the zone, the version that it gave the zone, the first bit and the number
 /// of pages.
@@ -13,14 +14,15 @@ pub struct Move {
     pub count: u32,
 }
 
-/// A move, the pool that made it, and the word by which a claim searched.
+/// A move and the pool that made it.
 #[derive(Clone, Copy, Debug, PartialEq, Eq)]
 pub struct ZoneMove {
     pub pool: u32,
-    /// Whether it is a claim. Else it is a release, and its word is 0.
+    /// Whether it is a claim. Else it is a release.
     pub claims: bool,
     pub made: Move,
-    pub word: u32,
+    /// The word by which a claim searched. A claim at a given place and a release have none.
+    pub search: Option<u32>,
 }
 
 /// One call on a pool: who made it, what was asked and answered, the words that were drawn, and
@@ -39,10 +41,30 @@ pub struct CallEntry {
     pub release: Option<Move>,
 }
 
+impl Model for CallEntry {
+    ghost use Rattle.om_model.specs.Data.CallEntry;
+
+    ghost Value = { CallEntry.CallEntry };
+
+    // The room that the list of looks has is forgotten.
+    ghost view = { λ c. record {
+      who = c.who;
+      op = c.op;
+      reply = c.reply;
+      words = c.words;
+      looks = c.looks.items;
+      taken = c.taken;
+      claim = c.claim;
+      release = c.release;
+    } };
+}
+
 /// What an entry says of its call and of the answer.
 #[derive(Clone, Copy, Debug, PartialEq, Eq)]
 pub struct Asked {
     pub command: u32,
+    /// The phase in which the entry stands.
+    pub phase: u32,
     pub hop: u64,
     pub op: Op,
     pub reply: Reply,

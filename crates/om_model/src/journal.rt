@@ -1,5 +1,5 @@
 ghost use Rattle.std.specs.Prelude.{◌≡◌, ◌+◌, ◌-◌, ◌^◌, ◌<◌, ◌≤◌, ◌==◌, [], ◌∷◌, ◌++◌, length, Some, slice_get, OnOk};
-ghost use Rattle.om_model.specs.JournalRanges.{FitsJournal};
+ghost use Rattle.om_model.specs.Data.Ranges.{FitsJournal};
 
 use crate::entry::Entry;
 use crate::ranges::entry_fits;
@@ -14,12 +14,15 @@ pub struct Journal {
 
 impl Model for Journal {
     ghost use Rattle.std.specs.Prelude.{◌-◌, ◌^◌, ◌<◌, vec_len, vec_capacity};
-    ghost use Rattle.om_model.specs.Entries.{Entries};
-    ghost use Rattle.om_model.specs.JournalRanges.{FitsJournal};
+    ghost use Rattle.om_model.specs.Data.Room.{Entries};
+    ghost use Rattle.om_model.specs.Data.Ranges.{FitsJournal};
 
     ghost Value = { Entries };
 
-    ghost view = { λ j. record { items = j.entries.items; spare = vec_capacity j.entries - vec_len j.entries } };
+    ghost view = { λ j. record {
+      items = j.entries.items;
+      spare = vec_capacity j.entries - vec_len j.entries;
+    } };
 
     ghost invariant = { λ j. (vec_len j.entries < 2 ^ 32) × FitsJournal j.entries.items };
 }

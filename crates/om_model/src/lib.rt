@@ -4,7 +4,6 @@
 
 mod block;
 mod board;
-mod command;
 mod content;
 mod drawn;
 mod entry;
@@ -15,11 +14,13 @@ mod operation;
 mod ranges;
 mod reply;
 pub mod slow;
+#[cfg(test)]
+mod tests;
+pub mod text;
 mod transcript;
 
 pub use block::{Block, Place};
 pub use board::{Board, BoardEntry};
-pub use command::Command;
 pub use content::{Head, Told};
 pub use drawn::Drawn;
 pub use entry::{Asked, CallEntry, Entry, Move, ZoneMove};
@@ -29,6 +30,3 @@ pub use looks::{Look, LookList, Named};
 pub use operation::{Call, Op, Who};
 pub use reply::{Fault, Outcome, Reply, Segv, Why};
 pub use transcript::{Transcript, TranscriptList};
-
-#[cfg(test)]
-mod tests;

@@ -1,6 +1,6 @@
 ghost use Rattle.std.specs.Prelude.{◌≡◌, ◌+◌, ◌-◌, ◌^◌, ◌<◌, ◌≤◌, ◌==◌, [], ◌∷◌, ◌++◌, length, Some, slice_get, IfOk};
 ghost use Rattle.std.specs.List.{AllByRecursion};
-ghost use Rattle.om_model.specs.Ranges.{FitsLook};
+ghost use Rattle.om_model.specs.Data.Ranges.{FitsLook};
 
 use crate::ranges::look_fits;
 use std::alloc::{AllocError, Global};
@@ -31,12 +31,15 @@ pub struct LookList {
 impl Model for LookList {
     ghost use Rattle.std.specs.Prelude.{◌-◌, ◌^◌, ◌<◌, vec_len, vec_capacity};
     ghost use Rattle.std.specs.List.{AllByRecursion};
-    ghost use Rattle.om_model.specs.Ranges.{FitsLook};
-    ghost use Rattle.om_model.specs.Room.{Looks};
+    ghost use Rattle.om_model.specs.Data.Ranges.{FitsLook};
+    ghost use Rattle.om_model.specs.Data.Room.{Looks};
 
     ghost Value = { Looks };
 
-    ghost view = { λ l. record { items = l.looks.items; spare = vec_capacity l.looks - vec_len l.looks } };
+    ghost view = { λ l. record {
+      items = l.looks.items;
+      spare = vec_capacity l.looks - vec_len l.looks;
+    } };
 
     ghost invariant = { λ l. (vec_len l.looks < 2 ^ 32) × AllByRecursion FitsLook l.looks.items };
 }

@@ -43,9 +43,10 @@ pub enum Op {
     },
 }
 
-/// A call that a script makes, by the number of its command from 1 on.
+/// A call that a script makes, by the number of its command from 1 on and the phase of this.
 #[derive(Clone, Copy, Debug, PartialEq, Eq)]
 pub struct Call {
     pub command: u32,
+    pub phase: u32,
     pub op: Op,
 }

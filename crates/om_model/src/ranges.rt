@@ -4,9 +4,9 @@ ghost use Rattle.std.specs.Prelude.{IfSome};
 ghost use Rattle.std.specs.List.{AllByRecursion};
 ghost use Rattle.om_words.specs.declared.plan.WordPlan.TheVariants.{Seeded};
 ghost use Rattle.om_model.specs.declared.entry.Entry.TheVariants.{Phase};
-ghost use Rattle.om_model.specs.OutputRanges.{FitsOptions, FitsPlan};
-ghost use Rattle.om_model.specs.Ranges.{IsByte, IsU32, FitsWho, FitsOp, FitsReply, FitsLook, FitsMove, FitsOutcome};
-ghost use Rattle.om_model.specs.JournalRanges.{FitsCall, FitsEntry};
+ghost use Rattle.om_model.specs.Output.Ranges.{FitsOptions, FitsPlan};
+ghost use Rattle.om_model.specs.Data.Ranges.{IsByte, IsU32, FitsWho, FitsOp, FitsReply, FitsLook, FitsMove, FitsOutcome};
+ghost use Rattle.om_model.specs.Data.Ranges.{FitsCall, FitsEntry};
 
 use crate::entry::{CallEntry, Entry, Move};
 use crate::looks::Look;

@@ -1,26 +1,29 @@
-//! The definitions as plain code over lists, for tests to compare with: states, steps and journals; zone
-//! order and looks; script runs and their calls; the output text.
-mod allocation;
-mod apart;
+//! The definitions as plain code over lists, for tests to compare with. The rules of a pool are those of a
+//! head and the pool's number.
 mod calls;
-mod claims;
-mod following;
-mod freeing;
-mod journals;
+mod free;
+mod in_use;
+mod journal;
 mod looks;
+mod malloc;
 mod moves;
-mod pages;
+mod order;
 mod picks;
-mod scripts;
-mod states;
+mod rules;
+mod standing;
+mod state;
+mod steps;
 mod text;
+mod well_formed;
 
-pub use calls::{Answered, are_calls, is_script_run, only_callers};
-pub use journals::is_lawful;
+pub use calls::{Answered, are_calls, calls_read, only_callers};
+pub use in_use::{Kind, Use, free_pages, is_begun, is_free_page, page_kind, uses};
+pub use journal::is_lawful;
 pub use looks::{are_looks, is_true_look};
-pub use moves::{fit_at, is_zone_order, last_version, moves_of, owner};
-pub use pages::{chunk_class, free_pages, holds, is_among, is_free_page, with_page, without_page};
-pub use picks::{open_pages, own_page, picked_place, place_address};
-pub use scripts::{Ran, script_run};
-pub use states::{Answer, Run, State, Wish, delayed, places_in};
+pub use moves::moves_of;
+pub use order::{fit_at, is_zone_order, last_version, owner};
+pub use picks::{open_pages, own_page, own_run, picked_place, place_address};
+pub use standing::{Standing, stands_at};
+pub use state::State;
+pub use steps::{Run, Step, Wish};
 pub use text::text_of;

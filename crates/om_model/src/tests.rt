@@ -1,10 +1,13 @@
-ghost use Rattle.std.specs.Prelude.{◌≡◌, ◌^◌, ◌<◌, IfOk, IfSome};
-ghost use Rattle.om_model.specs.Steps.{run_of};
+ghost use Rattle.std.specs.Prelude.{IfOk, IfSome, ◌<◌, ◌+◌, ◌^◌};
+ghost use Rattle.om_words.specs.PlannedWords.{HasWords};
+ghost use Rattle.om_model.specs.Slow.{IsSmallClaim};
 
 use super::*;
 use om_opts::Opts;
-use om_words::Words;
+use om_words::{WordList, WordPlan};
+use slow::State;
 use std::alloc::Global;
+use std::process::Abort;
 use std::test::Fail;
 
 #[test]
@@ -30,47 +33,26 @@ fn lists_keep_their_items(rt: HostRuntime) -> Result<(), Fail> {
     transcript.push(Outcome::Done)?;
     assert_eq!(rt; transcript.len(), 1);
     assert!(rt; matches!(transcript.outcome(0), Outcome::Done));
-    Ok(())
-}
-
-// Two places of class 128 on page 5, at 5 and 6.
-#[test]
-fn plain_forms_answer(rt: HostRuntime) -> Result<(), Fail> {
-    let used = [
-        Place {
-            address: 0x15280,
-            class: 128,
-        },
-        Place {
-            address: 0x15300,
-            class: 128,
-        },
-    ];
-    assert!(rt; slow::is_among(&used, 0x15300));
-    assert!(rt; !slow::is_among(&used, 0x15301));
-    assert!(rt; slow::is_free_page(&used, 4));
-    assert!(rt; !slow::is_free_page(&used, 5));
-    assert_eq!(rt; slow::chunk_class(&used, 5), Some(128));
-    assert_eq!(rt; slow::chunk_class(&used, 6), None);
-    assert_eq!(rt; slow::picked_place(&used, 5, 128, 5), Some(7));
-    assert_eq!(rt; slow::picked_place(&used, 5, 128, 37), Some(7));
-    assert_eq!(rt; slow::picked_place(&used, 5, 128, 31), Some(31));
     blocks_are_apart();
     Ok(())
 }
 
-// A state at the start, in an arena of one zone, over the words of a list.
-fn opened(alloc: Global, opts: Opts, list: Vec<u32>) -> Result<slow::State, Fail>
-    ensures { IfOk result (λ state. state.words.place ≡ 1) }
+// An arena of one zone, and the two words of a list.
+fn head_of(alloc: Global, opts: Opts, first: u32, second: u32) -> Result<Head, Fail>
+    ensures { IfOk result (λ head. HasWords head.plan) }
 {
-    let words = Words::listed(list)?;
-    Ok(slow::State::opening(alloc, opts, 1, 0, words))
+    Ok(Head {
+        opts,
+        zones: 1,
+        plan: WordPlan::Listed(WordList::new(vec![in alloc; first, second]?)),
+        warned: Vec::new(alloc),
+    })
 }
 
 // A claim of the page.
 fn claim(page: u32) -> Option<Move>
     requires { page < 32 }
-    ensures { IfSome result (λ move. (run_of move).first < 2 ^ 32) }
+    ensures { IsSmallClaim result }
 {
     Some(Move {
         zone: 0,
@@ -80,51 +62,76 @@ fn claim(page: u32) -> Option<Move>
     })
 }
 
-fn reply_of(answer: &Option<slow::Answer>) -> Option<Reply> {
-    match answer {
-        Some(answer) => Some(answer.reply),
-        None => None,
-    }
+fn malloc(
+    rt: &impl Abort,
+    head: &Head,
+    state: &mut State,
+    size: u64,
+    claim: Option<Move>,
+) -> Result<Reply, Fail>
+    requires words { HasWords head.now.plan }
+    requires claim { IsSmallClaim claim }
+{
+    assert!(rt; state.drawn < 1_000);
+    let step = state.malloc(head, 0, size, 0, claim)?;
+    *state = step.next;
+    Ok(step.reply)
+}
+
+fn free(
+    rt: &impl Abort,
+    head: &Head,
+    state: &mut State,
+    address: u64,
+) -> Result<(Reply, Option<slow::Run>), Fail>
+    requires { HasWords head.now.plan }
+{
+    assert!(rt; state.drawn < 1_000);
+    let step = state.free(head, 0, address)?;
+    *state = step.next;
+    Ok((step.reply, step.release))
 }
 
 // With the word 0 alone a block goes on the claimed page, at its first place, and every free takes slot 0.
 #[test]
 fn steps_over_the_word_0(rt: HostRuntime) -> Result<(), Fail> {
-    let mut state = opened(rt.alloc(), Opts::start(), vec![in rt.alloc(); 0]?)?;
-    assert!(rt; state.malloc(0, 0, None)?.is_none());
-    let given = state.malloc(100, 7, claim(0))?;
-    assert_eq!(rt; reply_of(&given), Some(Reply::Block(0x10000)));
+    let head = head_of(rt.alloc(), Opts::default(), 0, 0)?;
+    let mut state = State::opening(rt.alloc());
+    let given = malloc(&rt, &head, &mut state, 100, claim(0))?;
+    assert_eq!(rt; given, Reply::Block(0x10000));
     assert_eq!(rt; state.live.len(), 1);
-    assert_eq!(rt; state.free(0x20000)?.reply, Reply::Miss);
-    assert_eq!(rt;
-        state.free(0x10008)?.reply,
-        Reply::Fault(Fault::ModifiedPointer)
-    );
-    assert_eq!(rt;
-        state.free(0x10080)?.reply,
-        Reply::Fault(Fault::AlreadyFree)
-    );
-    assert_eq!(rt; state.free(0x10000)?.reply, Reply::Done);
+    for (address, reply) in [
+        (0x20000, Reply::Miss),
+        (0x10008, Reply::Fault(Fault::ModifiedPointer)),
+        (0x10080, Reply::Fault(Fault::AlreadyFree)),
+        (0x10000, Reply::Done),
+        (0x10000, Reply::Fault(Fault::DoubleFree)),
+    ] {
+        assert_eq!(rt; free(&rt, &head, &mut state, address)?.0, reply);
+    }
     assert_eq!(rt; state.live.len(), 0);
-    assert_eq!(rt; state.free(0x10000)?.reply, Reply::Fault(Fault::DoubleFree));
     Ok(())
 }
 
 // Word 5 chooses place 5 of a page of class 128.
 #[test]
 fn a_block_on_page_5(rt: HostRuntime) -> Result<(), Fail> {
-    let mut state = opened(rt.alloc(), Opts::start(), vec![in rt.alloc(); 5]?)?;
-    let given = state.malloc(100, 0, claim(5))?;
-    assert_eq!(rt; reply_of(&given), Some(Reply::Block(0x15280)));
-    let used = state.places()?;
-    assert_eq!(rt;
-        slow::own_page(rt.alloc(), &used, &state.held, 128, 9)?,
-        Some(5)
-    );
-    assert_eq!(rt;
-        slow::own_page(rt.alloc(), &used, &state.held, 16, 9)?,
-        None
-    );
+    let head = head_of(rt.alloc(), Opts::default(), 5, 5)?;
+    let mut state = State::opening(rt.alloc());
+    let given = malloc(&rt, &head, &mut state, 100, claim(5))?;
+    assert_eq!(rt; given, Reply::Block(0x15280));
+    let used = slow::uses(&head, 0, &state)?;
+    assert!(rt; slow::is_begun(&used, 0x15280));
+    assert!(rt; !slow::is_begun(&used, 0x15281));
+    assert!(rt; slow::is_free_page(&used, 4));
+    assert!(rt; !slow::is_free_page(&used, 5));
+    assert!(rt; matches!(slow::page_kind(&used, 5), Some(slow::Kind::Chunk(128))));
+    assert!(rt; slow::page_kind(&used, 6).is_none());
+    assert_eq!(rt; slow::picked_place(&used, 5, 128, 37), Some(6));
+    let own = slow::own_page(rt.alloc(), &used, &state.held, 128, 9)?;
+    assert_eq!(rt; own, Some(5));
+    let own = slow::own_page(rt.alloc(), &used, &state.held, 16, 9)?;
+    assert_eq!(rt; own, None);
     Ok(())
 }
 
@@ -133,32 +140,71 @@ fn a_block_on_page_5(rt: HostRuntime) -> Result<(), Fail> {
 fn no_free_page_is_kept(rt: HostRuntime) -> Result<(), Fail> {
     let opts = Opts {
         cache: 0,
-        ..Opts::start()
+        ..Opts::default()
     };
-    let mut state = opened(rt.alloc(), opts, vec![in rt.alloc(); 0]?)?;
-    let _first = state.malloc(2048, 0, claim(0))?;
-    let _second = state.malloc(100, 0, claim(1))?;
-    assert_eq!(rt; state.free(0x10000)?.release, None);
-    let evicting = state.free(0x11000)?;
-    assert_eq!(rt; evicting.reply, Reply::Done);
-    assert_eq!(rt; evicting.release, Some(slow::Run { first: 0, count: 1 }));
+    let head = head_of(rt.alloc(), opts, 0, 0)?;
+    let mut state = State::opening(rt.alloc());
+    let _first = malloc(&rt, &head, &mut state, 2048, claim(0))?;
+    let _second = malloc(&rt, &head, &mut state, 100, claim(1))?;
+    assert_eq!(rt; free(&rt, &head, &mut state, 0x10000)?.1, None);
+    let (reply, release) = free(&rt, &head, &mut state, 0x11000)?;
+    assert_eq!(rt; reply, Reply::Done);
+    assert_eq!(rt; release, Some(slow::Run { first: 0, count: 1 }));
     assert_eq!(rt; state.held.as_slice(), [1].as_slice());
+    Ok(())
+}
+
+// Two pages and the guard behind them. What is freed at once leaves the pool, and a larger one never came.
+#[test]
+fn a_block_of_two_pages(rt: HostRuntime) -> Result<(), Fail> {
+    let opts = Opts {
+        guard: true,
+        cache: 2,
+        ..Opts::default()
+    };
+    let head = head_of(rt.alloc(), opts, 7, 0)?;
+    let mut state = State::opening(rt.alloc());
+    let run = Some(Move {
+        zone: 0,
+        version: 1,
+        first: 4,
+        count: 3,
+    });
+    let refused = malloc(&rt, &head, &mut state, 32 * 4096, run)?;
+    assert_eq!(rt; refused, Reply::Null(Why::TooLarge));
+    let given = malloc(&rt, &head, &mut state, 5000, run)?;
+    assert_eq!(rt; given, Reply::Block(0x14000));
+    assert_eq!(rt; state.held.as_slice(), [4, 5, 6].as_slice());
+    for (address, reply) in [
+        (0x15000, Reply::Fault(Fault::Bogus)),
+        (0x16000, Reply::Fault(Fault::Bogus)),
+        (0x17000, Reply::Miss),
+    ] {
+        assert_eq!(rt; free(&rt, &head, &mut state, address)?.0, reply);
+    }
+    let stands = slow::stands_at(&head, 0, &state, 0x16000)?;
+    assert!(rt; matches!(stands, slow::Standing::OnGuard));
+    let (reply, release) = free(&rt, &head, &mut state, 0x14000)?;
+    assert_eq!(rt; reply, Reply::Done);
+    assert_eq!(rt; release, Some(slow::Run { first: 4, count: 3 }));
+    assert!(rt; state.held.is_empty());
     Ok(())
 }
 
 // A block that is live twice shares its bytes, and one on a page that isn't held lies nowhere.
 #[test]
 fn states_are_judged(rt: HostRuntime) -> Result<(), Fail> {
-    let mut state = opened(rt.alloc(), Opts::start(), vec![in rt.alloc(); 0]?)?;
-    let _given = state.malloc(100, 0, claim(1))?;
-    assert!(rt; state.is_well_formed()?);
+    let head = head_of(rt.alloc(), Opts::default(), 0, 0)?;
+    let mut state = State::opening(rt.alloc());
+    let _given = malloc(&rt, &head, &mut state, 100, claim(1))?;
+    assert!(rt; state.is_well_formed(&head, 0)?);
     let live = Vec::from_slice(rt.alloc(), &state.live)?;
     state.live.extend_from_slice(&live)?;
-    assert!(rt; !state.is_well_formed()?);
+    assert!(rt; !state.is_well_formed(&head, 0)?);
     state.live = live;
-    assert!(rt; state.is_well_formed()?);
+    assert!(rt; state.is_well_formed(&head, 0)?);
     state.held = Vec::new(rt.alloc());
-    assert!(rt; !state.is_well_formed()?);
+    assert!(rt; !state.is_well_formed(&head, 0)?);
     Ok(())
 }
 
@@ -169,66 +215,25 @@ fn another_slot_holds_the_place(rt: HostRuntime) -> Result<(), Fail> {
         let opts = Opts {
             freecheck,
             xmalloc: freecheck,
-            ..Opts::start()
+            ..Opts::default()
         };
-        let mut state = opened(rt.alloc(), opts, vec![in rt.alloc(); 0, 1]?)?;
-        let _given = state.malloc(100, 0, claim(1))?;
-        assert_eq!(rt; state.free(0x11000)?.reply, Reply::Done);
+        let head = head_of(rt.alloc(), opts, 0, 1)?;
+        let mut state = State::opening(rt.alloc());
+        let _given = malloc(&rt, &head, &mut state, 100, claim(1))?;
+        assert_eq!(rt; free(&rt, &head, &mut state, 0x11000)?.0, Reply::Done);
         let again = if freecheck {
             Reply::Fault(Fault::DoubleFree)
         } else {
             Reply::Done
         };
-        assert_eq!(rt; state.free(0x11000)?.reply, again);
-        let refused = state.malloc(16, 0, None)?;
+        assert_eq!(rt; free(&rt, &head, &mut state, 0x11000)?.0, again);
         let null = if freecheck {
             Reply::Fault(Fault::OutOfMemory(Why::NoRun))
         } else {
             Reply::Null(Why::NoRun)
         };
-        assert_eq!(rt; reply_of(&refused), Some(null));
+        assert_eq!(rt; malloc(&rt, &head, &mut state, 16, None)?, null);
     }
-    Ok(())
-}
-
-// The free of a null makes no call, and where no pool has the address the script ends.
-#[test]
-fn a_script_makes_calls(rt: HostRuntime) -> Result<(), Fail> {
-    let commands = [
-        Command::Malloc {
-            var: 0,
-            size: 100,
-            site: 7,
-        },
-        Command::Malloc {
-            var: 1,
-            size: 16,
-            site: 0,
-        },
-        Command::Free { var: 1 },
-        Command::Free { var: 0 },
-        Command::Free { var: 0 },
-    ];
-    let replies = [
-        Reply::Block(0x10000),
-        Reply::Null(Why::NoRun),
-        Reply::Miss,
-        Reply::Done,
-    ];
-    let ran = slow::script_run(rt.alloc(), 2, &commands, &replies)?;
-    let outcomes = [
-        Outcome::Block(0x10000),
-        Outcome::Null(Why::NoRun),
-        Outcome::Done,
-        Outcome::Fault(Fault::Bogus),
-    ];
-    assert_eq!(rt; ran.outcomes.as_slice(), outcomes.as_slice());
-    assert_eq!(rt; ran.calls.len(), 3);
-    let freed = Call {
-        command: 4,
-        op: Op::Free { addr: 0x10000 },
-    };
-    assert_eq!(rt; ran.calls.last().copied(), Some(freed));
     Ok(())
 }
 
@@ -250,29 +255,81 @@ fn called(alloc: Global, op: Op, reply: Reply, words: Drawn, claim: Option<Move>
     })
 }
 
-// Over the word 0 alone an allocation claims page 0. The free that says that it drew no word isn't lawful.
+// Over the word 0 alone an allocation claims page 0, and the free draws so many words.
+fn journal_of(alloc: Global, free_words: Drawn) -> Result<Journal, Fail> {
+    let mut journal = Journal::new(alloc);
+    journal.reserve()?;
+    journal.push(Entry::Phase(1));
+    let size = Op::Malloc { size: 100, site: 0 };
+    let given = Reply::Block(0x10000);
+    journal.reserve()?;
+    journal.push(called(alloc, size, given, Drawn::two(0, 0), claim(0)));
+    let free = Op::Free { addr: 0x10000 };
+    journal.reserve()?;
+    journal.push(called(alloc, free, Reply::Done, free_words, None));
+    Ok(journal)
+}
+
+// The free that says that it drew no word isn't lawful.
 #[test]
 fn journals_are_judged(rt: HostRuntime) -> Result<(), Fail> {
-    for free_words in 0..2 {
-        let mut journal = Journal::new(rt.alloc());
-        journal.reserve()?;
-        journal.push(Entry::Phase(1));
-        let mut pair = Drawn::empty();
-        pair.push(0);
-        pair.push(0);
-        let size = Op::Malloc { size: 100, site: 0 };
-        journal.reserve()?;
-        journal.push(called(rt.alloc(), size, Reply::Block(0x10000), pair, claim(0)));
-        let mut one = Drawn::empty();
-        if free_words == 1 {
-            one.push(0);
-        }
-        let free = Op::Free { addr: 0x10000 };
-        journal.reserve()?;
-        journal.push(called(rt.alloc(), free, Reply::Done, one, None));
-        let words = Words::listed(vec![in rt.alloc(); 0]?)?;
-        let lawful = slow::is_lawful(rt.alloc(), Opts::start(), 1, 0, words, &journal)?;
-        assert_eq!(rt; lawful, free_words == 1);
-    }
+    let head = head_of(rt.alloc(), Opts::default(), 0, 0)?;
+    assert_eq!(rt; head.zones, 1);
+    let journal = journal_of(rt.alloc(), Drawn::one(0))?;
+    assert!(rt; slow::is_lawful(rt.alloc(), &head, 0, &journal)?);
+    let journal = journal_of(rt.alloc(), Drawn::empty())?;
+    assert!(rt; !slow::is_lawful(rt.alloc(), &head, 0, &journal)?);
+    Ok(())
+}
+
+const TEXT: &[u8] = b"omalloc 1
+zones 1 pools 1 flags ------- junk 1 cache 64
+words list 0,0
+pool 0 canary 01 entries 3
+phase 1
+0 1 0 malloc 100 @0x0 = block 0x10000 w 0 0 claim 0@1 0+1
+0 1 0 free 0x10000 = done w 0
+board entries 2
+0 1 post 3 0xff = done
+0 2 take 3 = empty
+script 0 a
+1 block 0x10000
+2 done
+finished
+done
+";
+
+#[test]
+fn a_block_and_its_free(rt: HostRuntime) -> Result<(), Fail> {
+    let alloc = rt.alloc();
+    let opts = Opts {
+        pools: 1,
+        ..Opts::default()
+    };
+    let head = head_of(alloc, opts, 0, 0)?;
+    let journal = journal_of(alloc, Drawn::one(0))?;
+    let board = [
+        BoardEntry::Post {
+            caller: 0,
+            command: 1,
+            cell: 3,
+            value: 255,
+        },
+        BoardEntry::Take {
+            caller: 0,
+            command: 2,
+            cell: 3,
+            value: None,
+        },
+    ];
+    let mut outcomes = Transcript::new(alloc);
+    outcomes.push(Outcome::Block(0x10000))?;
+    outcomes.push(Outcome::Done)?;
+    let told = Told {
+        name: b"a".to_vec(alloc)?,
+        outcomes,
+    };
+    let text = slow::text_of(alloc, &head, &[journal], &board, &[told])?;
+    assert_eq!(rt; text.as_slice(), TEXT);
     Ok(())
 }

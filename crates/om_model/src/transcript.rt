@@ -1,6 +1,6 @@
 ghost use Rattle.std.specs.Prelude.{◌≡◌, ◌-◌, ◌^◌, ◌<◌, ◌==◌, [], ◌∷◌, ◌++◌, length, Some, slice_get, OnOk, OnErr};
 ghost use Rattle.std.specs.List.{AllByRecursion};
-ghost use Rattle.om_model.specs.Ranges.{FitsOutcome};
+ghost use Rattle.om_model.specs.Data.Ranges.{FitsOutcome};
 
 use crate::ranges::outcome_fits;
 use crate::reply::Outcome;
@@ -16,14 +16,15 @@ pub struct Transcript {
 impl Model for Transcript {
     ghost use Rattle.std.specs.Prelude.{List, ◌^◌, ◌<◌, vec_len};
     ghost use Rattle.std.specs.List.{AllByRecursion};
-    ghost use Rattle.om_model.specs.Ranges.{FitsOutcome};
+    ghost use Rattle.om_model.specs.Data.Ranges.{FitsOutcome};
     ghost use Rattle.om_model.specs.declared.reply.Outcome.{Outcome};
 
     ghost Value = { List Outcome };
 
     ghost view = { λ t. t.outcomes.items };
 
-    ghost invariant = { λ t. (vec_len t.outcomes < 2 ^ 32) × AllByRecursion FitsOutcome t.outcomes.items };
+    ghost invariant = { λ t.
+        (vec_len t.outcomes < 2 ^ 32) × AllByRecursion FitsOutcome t.outcomes.items };
 }
 
 impl Transcript {

@@ -14,7 +14,7 @@ pub struct Opts {
     pub always_move: bool,
     /// Free pages that are kept can't be touched.
     pub unmap: bool,
-    /// Want of memory is a fault, and no null.
+    /// A null is a fault in its place.
     pub xmalloc: bool,
     /// The blocks that were never freed are reported.
     pub dump: bool,
@@ -26,12 +26,11 @@ pub struct Opts {
     pub pools: u32,
 }
 
-impl Opts {
-    /// The options where no letter is given.
-    pub fn start() -> Opts
-        ensures value { result ≡ start }
-        ensures within { IsWithin result }
-    {
+/// The options where no letter is given.
+impl Default for Opts {
+    ghost is_default = { λ opts. opts ≡ start };
+
+    fn default() -> Opts {
         Opts {
             canary: false,
             freecheck: false,
@@ -45,7 +44,9 @@ impl Opts {
             pools: 8,
         }
     }
+}
 
+impl Opts {
     fn with_freecheck(self, on: bool) -> Opts
         ensures { result ≡ with_freecheck on self }
     {
@@ -102,7 +103,8 @@ impl Opts {
     #[tactic(auto, unfolding(crate::specs::Letters::effect, crate::specs::Letters::has_effect))]
     pub(crate) fn after(mut self, letter: u8) -> Option<Opts>
         requires { IsWithin self }
-        ensures value { MatchOption result (effect letter self ≡ self) (λ next. next ≡ effect letter self) }
+        ensures value { MatchOption result (effect letter self ≡ self)
+            (λ next. next ≡ effect letter self) }
         ensures known { is_some result ≡ has_effect letter }
     {
         match letter {

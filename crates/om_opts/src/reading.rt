@@ -29,7 +29,7 @@ pub fn parse(alloc: Global, letters: &[u8]) -> Result<Parsed, AllocError>
     ensures warned { IfOk result (λ parsed. parsed.warned ≡ warned_of letters.now) }
     ensures within { IfOk result (λ parsed. IsWithin parsed.opts) }
 {
-    let mut opts = Opts::start();
+    let mut opts = Opts::default();
     let mut warned = Vec::new(alloc);
     for letter in letters {
         match opts.after(*letter) {

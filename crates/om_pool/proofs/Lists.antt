@@ -1,48 +1,9 @@
--- Searches over the places in use, as searches over the blocks and the slots.
-use Rattle.std.proofs.Common.{◌≡◌, ℕ, zero, suc, ◌-◌, ◌<◌, arith, Bool, true, false, ◌||◌, ◌&&◌, List, [], ◌∷◌, Option, Some, None, cond, refl, sym, ap, ◌∙◌, length}
+-- What a filter leaves: the element at a place of it, and what `retain` keeps.
+use Rattle.std.proofs.Common.{◌≡◌, ℕ, zero, suc, ◌-◌, ◌<◌, arith, Bool, true, false, ◌&&◌, List, [], ◌∷◌, cond, refl, ap, ◌∙◌, length}
 use Rattle.std.specs.List.Retain.{ReturnsInTurn, IsFiltered}
-use Rattle.std.specs.List.{items_where_true, list_any, filter_map, cons_option, find, filter, slice_get}
-use Rattle.std.specs.Option.{option_and_then, option_or}
-use Rattle.std.proofs.lemmas.List.Folds.{list_any-append, find-append}
-use Rattle.om_model.specs.PoolState.{chunk_of, places_in, delayed}
-use Rattle.om_model.specs.declared.block.Block.{Block}
-use Rattle.om_model.specs.declared.block.Place.{Place}
-use Rattle.om_pool.specs.OptionTests.{option_any}
+use Rattle.std.specs.List.{items_where_true, filter, slice_get}
 
-pub list_any-filter_map : {X Y : Type 0} (test : Y → Bool) (f : X → Option Y) (xs : List X) → list_any test (filter_map f xs) ≡ list_any (λ x. option_any test (f x)) xs
-list_any-filter_map test f [] = refl
-list_any-filter_map test f (x ∷ xs) =
-    elim (f x) as (λ o. list_any test (cons_option o (filter_map f xs)) ≡ (option_any test o || list_any (λ z. option_any test (f z)) xs)) [
-      | None ↦ list_any-filter_map test f xs
-      | Some y ↦ ap (λ b. test y || b) (list_any-filter_map test f xs)
-    ]
-
-pub find-filter_map : {X Y : Type 0} (test : Y → Bool) (f : X → Option Y) (xs : List X) → find test (filter_map f xs) ≡ option_and_then f (find (λ x. option_any test (f x)) xs)
-find-filter_map test f [] = refl
-find-filter_map test f (x ∷ xs) =
-    (elim (f x) as (λ o. f x ≡ o → find test (cons_option o (filter_map f xs)) ≡ option_and_then f (cond (option_any test o) (Some x) (find (λ z. option_any test (f z)) xs))) [
-      | None ↦ λ e. find-filter_map test f xs
-      | Some y ↦ λ e. elim (test y) as (λ b. cond b (Some y) (find test (filter_map f xs)) ≡ option_and_then f (cond b (Some x) (find (λ z. option_any test (f z)) xs))) [
-        | true ↦ sym e
-        | false ↦ find-filter_map test f xs
-      ]
-    ]) refl
-
--- a test of the places in use, as a test of the blocks and of the slots
-pub list_any-places : (canary : Bool) (test : Place → Bool) (live : List Block) (slots : List (Option Place)) → list_any test (places_in canary live slots) ≡ (list_any (λ block. option_any test (chunk_of canary block)) live || list_any (option_any test) slots)
-list_any-places canary test live slots =
-    list_any-append test (filter_map (chunk_of canary) live) (delayed slots)
-    ∙ ap (λ b. b || list_any test (delayed slots)) (list_any-filter_map test (chunk_of canary) live)
-    ∙ ap (λ b. list_any (λ block. option_any test (chunk_of canary block)) live || b) (list_any-filter_map test (λ slot. slot) slots)
-
--- the first of the places in use that passes a test
-pub find-places : (canary : Bool) (test : Place → Bool) (live : List Block) (slots : List (Option Place)) → find test (places_in canary live slots) ≡ option_or (option_and_then (chunk_of canary) (find (λ block. option_any test (chunk_of canary block)) live)) (option_and_then (λ slot. slot) (find (option_any test) slots))
-find-places canary test live slots =
-    find-append test (filter_map (chunk_of canary) live) (delayed slots)
-    ∙ ap (λ o. option_or o (find test (delayed slots))) (find-filter_map test (chunk_of canary) live)
-    ∙ ap (option_or (option_and_then (chunk_of canary) (find (λ block. option_any test (chunk_of canary block)) live))) (find-filter_map test (λ slot. slot) slots)
-
--- the element at a place of a filtered list, one element further on
+-- one element further on
 pub slice_get-filter_hit : {X : Type 0} (test : X → Bool) (x : X) (xs : List X) (i : ℕ) → test x ≡ true → 0 < i → slice_get (filter test (x ∷ xs)) i ≡ slice_get (filter test xs) (i - 1)
 slice_get-filter_hit test x xs zero passes above = absurd (omega arith)
 slice_get-filter_hit test x xs (suc i) passes above = rw passes (let same : i ≡ suc i - 1 = omega arith in ap (slice_get (filter test xs)) same)

@@ -1,218 +1,139 @@
--- What allocation keeps.
-use Rattle.std.proofs.Common.{◌≡◌, ℕ, zero, suc, ◌+◌, ◌*◌, ◌%◌, ◌<◌, ◌≤◌, Bool, true, false, ◌||◌, ◌==◌, nat_eq, List, [], ◌∷◌, ◌++◌, length, cond, Option, Some, None, unwrap_or, refl, sym, ap, ◌∙◌, subst, arith, IsTrue, IsSome, IfSome, eq-eqb, map, append-nil}
-use Rattle.std.specs.List.{find, slice_get, AllByRecursion, range_with_len}
-use Rattle.std.specs.Option.{option_map, option_and_then}
-use Rattle.std.proofs.lemmas.Bool.{cases_Bool, and_parts}
-use Rattle.std.proofs.lemmas.Nat.{mod_below}
-use mathlib.Core.Logic.{⊎_elim}
-use Rattle.om_geom.specs.Addresses.{page_at}
-use Rattle.om_geom.specs.AddressLaws.{page_at-byte}
-use Rattle.om_geom.specs.Classes.{class_of, is_class, places_of, stride_of}
-use Rattle.om_geom.specs.ClassLaws.{place-within, stride-at_least_16, places-at_least_2}
-use Rattle.om_geom.specs.FitLaws.{find-cyclic_below}
-use Rattle.om_model.specs.Rules.{Rules, word_at}
-use Rattle.om_model.specs.PoolState.{State, chunk_of, places, is_free_page}
-use Rattle.om_model.specs.Picks.{is_free_place, is_open_page, open_pages, own_page, picked_place, place_address}
-use Rattle.om_model.specs.Steps.{Step, Answers, Wish, run_of}
-use Rattle.om_model.specs.Allocation.{with_two_drawn, wish_unless, malloc_wish, malloc, placed, placed_where, placed_on_claim}
-use Rattle.om_model.specs.LawfulJournal.{wish_of, step_of, answers_of}
-use Rattle.om_model.specs.declared.block.Place.{Place}
-use Rattle.om_model.specs.declared.entry.Move.{Move}
-use Rattle.om_model.specs.declared.operation.Op.TheVariants.{Malloc}
-use Rattle.om_model.specs.LawfulJournal.{MayAnswer, Agrees}
-use Rattle.om_model.specs.declared.entry.ZoneMove.{ZoneMove}
-use Rattle.om_model.specs.ZoneOrder.{moves_of, moves_of_call}
-use Rattle.om_model.specs.declared.reply.Reply.{Reply}
-use Rattle.om_model.specs.declared.entry.CallEntry.{CallEntry}
-use Rattle.om_model.specs.declared.entry.Entry.{Entry}
+-- What an allocation shows of the core.
+use Rattle.std.proofs.Common.{◌≡◌, ℕ, ◌+◌, ◌-◌, ◌%◌, ◌<◌, Bool, true, false, ◌==◌, List, [], ◌∷◌, ◌++◌, length, cond, if◌then◌else◌, Option, Some, None, IfSome, refl, sym, ap, ◌∙◌, subst, arith}
+use Rattle.std.specs.List.{find, slice_get, AllByRecursion}
+use Rattle.om_model.specs.Pool.InUse.{Use, uses, is_free_page}
+use Rattle.om_model.specs.Pool.Journal.{is_served, wish_of, MayAnswer}
+use Rattle.om_model.specs.Pool.Malloc.{block_or_null, block_placed, malloc, malloc_wish, pages_by_class, placed_where, search_unless, words_by_class, Placed}
+use Rattle.om_model.specs.Pool.Picks.{is_open_page, open_pages, own_page}
+use Rattle.om_model.specs.Pool.Rules.{Rules, size_class, word_at, words_from}
+use Rattle.om_model.specs.Pool.Runs.{run_of}
+use Rattle.om_model.specs.Pool.State.{State, drawn_more, is_held}
+use Rattle.om_model.specs.Pool.Steps.{Answers, Nothing, Step, Wish}
+use Rattle.om_model.specs.Zones.Moves.{pages_sought, search_word}
 use Rattle.om_model.specs.declared.entry.Entry.TheVariants.{Call}
-use Rattle.om_model.specs.declared.block.Block.{Block}
-use Rattle.om_pool.specs.Zones.{ZoneTable}
-use Rattle.om_pool.specs.ZoneStand.{Stands}
-use Rattle.om_pool.specs.PoolKept.{is_page_among, IsLiveOn, IsKept, FitsTable}
-use Rattle.om_pool.specs.Served.{IsServed, first_word, second_word}
-use Rattle.om_pool.proofs.LookLaws.{looked-still}
-use Rattle.om_pool.proofs.Kept.{IsStep, kept-step}
-use Rattle.om_model.specs.EachLaws.{all-append}
-use Rattle.om_pool.proofs.Held.{held-filter}
+use Rattle.om_model.specs.declared.entry.Move.{Move}
+use Rattle.om_model.specs.declared.looks.Look.{Look}
+use Rattle.om_model.specs.declared.operation.Op.TheVariants.{Malloc}
+use Rattle.om_model.specs.declared.operation.Who.{Who}
+use Rattle.om_model.specs.declared.reply.Reply.{Reply}
+use Rattle.om_model.proofs.Each.{all-filter, all-find, all-get}
+use Rattle.om_model.proofs.Malloc.{chunk-malloc, chunk-wish}
+use Rattle.om_pool.specs.CoreKept.{IsLookRoom, IsCore}
+use Rattle.om_pool.specs.HoldingsView.{rules_in, state_in, uses_in}
+use Rattle.om_pool.specs.Placing.{IsFor, reply_for}
+use Rattle.om_pool.specs.Zones.{ZoneTable, is_page_held, IsAsked}
+use Rattle.om_pool.specs.ZonesKept.{FitsZones}
+use Rattle.om_pool.specs.declared.pool_core.Core.{Core}
+use Rattle.om_pool.proofs.CoreLaws.{entry_with, Does}
+use Rattle.om_pool.proofs.FitsLaws.{may-asked, held_after, fits-asked}
+use Rattle.om_pool.proofs.ZoneLaws.{claim-zone, claim-within, claim-clear}
 
--- ---- an own page is a held one
+-- ---- the page for the block
 
-find-held : (test : ℕ → Bool) (pages : List ℕ) (page : ℕ) → find test pages ≡ Some page → is_page_among pages page ≡ true
-find-held test [] page found = cc
-find-held test (x ∷ xs) page found = ⊎_elim
-    (λ passes. let here : Some x ≡ Some page = rw passes at found in let same : page ≡ x = cc in rw (same, self x) refl)
-    (λ fails. let later = find-held test xs page (rw fails at found) in or_true (nat_eq page x) _ later)
-    (cases_Bool (test x))
-  where
-    self : (n : ℕ) → nat_eq n n ≡ true
-    self n = eq-eqb n n refl
+either : (P : ℕ → Type 0) (none : Bool) (free chosen : Option ℕ) (page : ℕ) → cond none free chosen ≡ Some page → (free ≡ Some page → P page) → (chosen ≡ Some page → P page) → P page
+either P true free chosen page own first second = first own
+either P false free chosen page own first second = second own
 
-    or_true : (a b : Bool) → b ≡ true → (a || b) ≡ true
-    or_true true b h = refl
-    or_true false b h = h
-
-get-held : (pages : List ℕ) (i page : ℕ) → slice_get pages i ≡ Some page → is_page_among pages page ≡ true
-get-held [] i page found = cc
-get-held (x ∷ xs) zero page found = let same : page ≡ x = cc in rw (same, eq-eqb x x refl) refl
-get-held (x ∷ xs) (suc i) page found = or_true (nat_eq page x) (is_page_among xs page) (get-held xs i page found)
-  where
-    or_true : (a b : Bool) → b ≡ true → (a || b) ≡ true
-    or_true true b h = refl
-    or_true false b h = h
-
-own-cond : (none : Bool) (free chosen : Option ℕ) (page : ℕ) (P : Type 0) → cond none free chosen ≡ Some page → (free ≡ Some page → P) → (chosen ≡ Some page → P) → P
-own-cond true free chosen page P own first second = first own
-own-cond false free chosen page P own first second = second own
-
-pub own_page-held : (used : List Place) (held : List ℕ) (class word page : ℕ) → own_page used held class word ≡ Some page → is_page_among held page ≡ true
+-- what holds of the held pages holds of an own page
+pub own-all : (P : ℕ → Type 0) (used : List Use) (held : List ℕ) (class word page : ℕ) → AllByRecursion P held → own_page used held class word ≡ Some page → P page
 unfolding own_page
-own_page-held used held class word page own =
+own-all P used held class word page all own =
     let pages = open_pages used held class in
-    own-cond (length pages == 0) (find (is_free_page used) held) (slice_get pages (word % length pages)) page (is_page_among held page ≡ true) own
-    (find-held (is_free_page used) held page)
-    (λ chosen. (and_parts (is_page_among held page) (is_open_page used class page) (sym (held-filter (is_open_page used class) held page) ∙ get-held pages _ page chosen)).0)
+    either P (length pages == 0) (find (is_free_page used) held) (slice_get pages (word % length pages)) page own
+    (all-find P (is_free_page used) held page all)
+    (all-get P pages (word % length pages) page (all-filter P (is_open_page used class) held all))
 
--- ---- a place lies on its page
+pub is-for : (rules : Rules) (held : List ℕ) (old new : ZoneTable) (own : Option ℕ) (word : ℕ) (looks : List Look) (claim : Option Move) → length old.bits ≡ 64 → ((page : ℕ) → is_page_held old page ≡ is_held held page)
+    → IfSome own (λ page. page < 2048) → IsAsked own old new word looks claim → IsFor held own claim
+is-for rules held old new (Some page) word looks claim zones pages low asked = low
+is-for rules held old new None word looks None zones pages low asked = tt
+is-for rules held old new None word looks (Some move) zones pages low asked =
+    let claimed = asked.1 in
+    record {
+      there = omega (arith, zones, claimed.count, claim-zone old new 1 word (length looks) move claimed, claim-within old new 1 word (length looks) move claimed);
+      fresh = sym (pages (run_of move).first) ∙ claim-clear old new 1 word (length looks) move claimed (run_of move).first (omega arith) (omega (arith, claimed.count));
+      one = claimed.count;
+    }
 
-picked-or : (found : Option ℕ) (count : ℕ) → 0 < count → ((i : ℕ) → found ≡ Some i → i < count) → unwrap_or found 0 < count
-picked-or None count some below = some
-picked-or (Some i) count some below = below i refl
+pub own-low : (rules : Rules) (state : State) (class word : ℕ) (own : Option ℕ) → AllByRecursion (λ page. page < 2048) state.held → own ≡ own_page (uses rules state) state.held class word → IfSome own (λ page. page < 2048)
+own-low rules state class word None all is = tt
+own-low rules state class word (Some page) all is = own-all (λ p. p < 2048) (uses rules state) state.held class word page all (sym is)
 
-pub picked-below : (used : List Place) (page class word : ℕ) → IsTrue (is_class class) → unwrap_or (picked_place used page class word) 0 < places_of class
-unfolding picked_place
-picked-below used page class word is =
-    let some : 0 < places_of class = omega (arith, places-at_least_2 class is) in
-    let start : word % places_of class ≤ places_of class = omega (arith, mod_below word (places_of class) some) in
-    picked-or (picked_place used page class word) (places_of class) some
-    (λ i found. find-cyclic_below (is_free_place used page class) (places_of class) (word % places_of class) i start found)
+-- ---- the step
 
-pub place_on_page : (page class place : ℕ) → IsTrue (is_class class) → place < places_of class → page_at (place_address page class place) ≡ page
-place_on_page page class place is lt = page_at-byte page (place * stride_of class) (omega (arith, place-within class place is lt, stride-at_least_16 class is))
+-- the held pages after a block was placed
+placed-held : (rules : Rules) (state : State) (own : Option ℕ) (claim : Option Move) (word size site : ℕ) → ((placed_where rules state own claim word size site).next).held ≡ held_after own claim state.held
+placed-held rules state (Some page) claim word size site = refl
+placed-held rules state None None word size site = refl
+placed-held rules state None (Some move) word size site = refl
 
--- ---- the step of an allocation
+reply-is : (rules : Rules) (address : Option ℕ) → reply_for rules.options.xmalloc address ≡ block_or_null rules address
+reply-is rules None = refl
+reply-is rules (Some address) = refl
 
-pub wish-is : (rules : Rules) (state : State) (size site class : ℕ) → IsServed rules size class → wish_of rules state (Malloc size site) ≡ malloc_wish rules state class
-wish-is rules state size site class served = ap (option_and_then (malloc_wish rules state)) served.class_is
+-- what the calls of the body say, the old core being kept
+pub record IsMalloc (old new : Core) (own : Option ℕ) (first second class size site : ℕ) (looks : List Look) (claim : Option Move) (placed : Placed) : Type 0 where
+  pub own_is : own ≡ own_page (uses_in old.state) old.state.held.items class (word_at (rules_in old.state) old.state.words.place)
+  pub first_is : first ≡ word_at (rules_in old.state) old.state.words.place
+  pub second_is : second ≡ word_at (rules_in old.state) (old.state.words.place + 1)
+  pub asked : IsAsked own old.zones new.zones first looks claim
+  pub placed_is : placed_where (rules_in old.state) (drawn_more 2 (state_in old.state)) own claim second size site ≡ placed
+  pub next : state_in new.state ≡ placed.next
+  pub rules : rules_in new.state ≡ rules_in old.state
+  pub canary : new.canary ≡ old.canary
+  pub room : IsLookRoom new.room
 
-pub step-is : (rules : Rules) (state : State) (size site class : ℕ) (answers : Answers) → IsServed rules size class → step_of rules state (Malloc size site) answers ≡ Some (malloc rules state class size site answers.claim)
-step-is rules state size site class answers served = ap (option_map (λ c. malloc rules state c size site answers.claim)) served.class_is
+module _ (old new : Core) (who : Who) (own : Option ℕ) (first second class size site : ℕ) (looks : List Look) (claim : Option Move) (placed : Placed) (answer : Reply)
+    (core : IsCore old) (is : IsMalloc old new own first second class size site looks claim placed)
+    (served : is_served (rules_in old.state) size ≡ true) (class_is : size_class (rules_in old.state) size ≡ Some class) (answer_is : answer ≡ reply_for old.state.opts.xmalloc placed.address)
+    (added : new.journal.items ≡ old.journal.items ++ Call (entry_with who (Malloc size site) answer (first ∷ second ∷ []) (record { claim = claim; looks = looks; taken = None }) None) ∷ []) where
+  abbrev rules : Rules
+  rules = rules_in old.state
 
--- the page is the pool's own: nothing is asked, and the block goes on it
-pub wish-own : (rules : Rules) (state : State) (class page : ℕ) → own_page (places rules state) state.held class (first_word rules state) ≡ Some page → malloc_wish rules state class ≡ None
-wish-own rules state class page own = ap (λ o. wish_unless o (first_word rules state)) own
+  abbrev state : State
+  state = state_in old.state
 
-pub malloc-own : (rules : Rules) (state : State) (size site class page : ℕ) (claim : Option Move) → own_page (places rules state) state.held class (first_word rules state) ≡ Some page
-    → malloc rules state class size site claim ≡ placed rules (with_two_drawn state) page class (second_word rules state) size site
-malloc-own rules state size site class page claim own = ap (λ o. placed_where rules (with_two_drawn state) o claim class (second_word rules state) size site) own
+  abbrev answers : Answers
+  answers = record { claim = claim; looks = looks; taken = None }
 
--- the pool has none: a page is asked for
-pub wish-none : (rules : Rules) (state : State) (class : ℕ) → own_page (places rules state) state.held class (first_word rules state) ≡ None → malloc_wish rules state class ≡ Some (record { count = 1; word = first_word rules state })
-wish-none rules state class own = ap (λ o. wish_unless o (first_word rules state)) own
+  malloc-is : malloc rules state size site claim ≡ block_placed rules 2 placed
+  malloc-is =
+      chunk-malloc rules size class class_is state site claim
+      ∙ ap (λ o. block_placed rules 2 (placed_where rules (drawn_more 2 state) o claim (word_at rules (state.drawn + 1)) size site)) (sym is.own_is)
+      ∙ ap (λ w. block_placed rules 2 (placed_where rules (drawn_more 2 state) own claim w size site)) (sym is.second_is)
+      ∙ ap (block_placed rules 2) is.placed_is
 
-pub malloc-none : (rules : Rules) (state : State) (size site class : ℕ) (claim : Option Move) → own_page (places rules state) state.held class (first_word rules state) ≡ None
-    → malloc rules state class size site claim ≡ placed_on_claim rules (with_two_drawn state) claim class (second_word rules state) size site
-malloc-none rules state size site class claim own = ap (λ o. placed_where rules (with_two_drawn state) o claim class (second_word rules state) size site) own
+  held-is : new.state.held.items ≡ held_after own claim old.state.held.items
+  held-is =
+      ap (λ (s : State). s.held) is.next
+      ∙ ap (λ (p : Placed). (p.next).held) (sym is.placed_is)
+      ∙ placed-held rules (drawn_more 2 state) own claim second size site
 
--- ---- what is kept
-
--- an entry of an allocation
-pub record IsMallocEntry (rules : Rules) (state : State) (entry : CallEntry) (size site : ℕ) (claim : Option Move) (reply : Reply) : Type 0 where
-  pub op : entry.op ≡ Malloc size site
-  pub reply_is : entry.reply ≡ reply
-  pub words : entry.words ≡ first_word rules state ∷ second_word rules state ∷ []
-  pub taken : entry.taken ≡ None
-  pub claim_is : entry.claim ≡ claim
-  pub release : entry.release ≡ None
-
-pub malloc-agrees : (rules : Rules) (state : State) (entry : CallEntry) (size site : ℕ) (claim : Option Move) (step : Step)
-    → IsMallocEntry rules state entry size site claim step.reply → step.words ≡ 2 → step.release ≡ None → Agrees rules state entry step
-malloc-agrees rules state entry size site claim step is two none = record {
-  reply = is.reply_is;
-  words = is.words ∙ ap (λ n. map (word_at rules) (range_with_len state.drawn n)) (sym two);
-  release = ap (option_map run_of) is.release ∙ sym none;
-  inside = let P : Option Move → Type 0 = λ o. IfSome o (λ move. move.first + move.count ≤ 32) in subst P (sym is.release) tt;
-}
-
-some-else : (b : Bool) (o : Option ℕ) (n : ℕ) → cond b None o ≡ Some n → o ≡ Some n
-some-else true o n e = cc
-some-else false o n e = e
-
--- a block of a served size is a chunk
-served-chunk : (rules : Rules) (size class : ℕ) (block : Block) → IsServed rules size class → block.size ≡ size → IsSome (chunk_of rules.options.canary block)
-served-chunk rules size class block served same =
-    let is : class_of block.size rules.options.canary ≡ Some class = ap (λ n. class_of n rules.options.canary) same ∙ some-else (size == 0) (class_of size rules.options.canary) class served.class_is in
-    let P : Option ℕ → Type 0 = λ o. IsSome (option_map (λ c. let place : Place = record { address = block.address; class = c } in place) o) in
-    subst P (sym is) refl
-
--- the new block's page is held
-pub placed-live : (rules : Rules) (state : State) (page class word size site : ℕ) → IsServed rules size class → is_page_among state.held page ≡ true
-    → AllByRecursion (IsLiveOn rules.options.canary state.held) state.live → AllByRecursion (IsLiveOn rules.options.canary state.held) (((placed rules state page class word size site).next).live)
-unfolding placed
-placed-live rules state page class word size site served held live =
-    let place = unwrap_or (picked_place (places rules state) page class word) 0 in
-    let on = place_on_page page class place served.is (picked-below (places rules state) page class word served.is) in
-    let P : ℕ → Type 0 = λ p. is_page_among state.held p ≡ true in
-    let block : Block = record { address = place_address page class place; size = size; site = site } in
-    all-append (IsLiveOn rules.options.canary state.held) state.live (block ∷ []) live
-    (record { on_held = subst P (sym on) held; chunk = served-chunk rules size class block served refl }, tt)
-
-pub placed-formed : (rules : Rules) (state : State) (table : ZoneTable) (page class word size site : ℕ) → IsServed rules size class → is_page_among state.held page ≡ true
-    → FitsTable rules state table → FitsTable rules ((placed rules state page class word size site).next) table
-unfolding placed
-placed-formed rules state table page class word size site served held formed = record {
-  zones = formed.zones;
-  slots = formed.slots;
-  ascends = formed.ascends;
-  arena = formed.arena;
-  held = formed.held;
-  live_on = placed-live rules state page class word size site served held formed.live_on;
-  slots_on = formed.slots_on;
-}
-
-no_moves : (pool : ℕ) (entry : CallEntry) → entry.claim ≡ None → entry.release ≡ None → moves_of_call pool entry ≡ []
-no_moves pool entry claim release = rw (claim, release) refl
-
--- a call that makes no move leaves the zones as they are
-pub stands-still : (pool : ℕ) (moves : List ZoneMove) (table : ZoneTable) (entry : CallEntry) → entry.claim ≡ None → entry.release ≡ None → Stands pool moves table → Stands pool (moves ++ moves_of_call pool entry) table
-stands-still pool moves table entry claim release stands =
-    let P : List ZoneMove → Type 0 = λ ms. Stands pool ms table in
-    subst P (sym (ap (λ ms. moves ++ ms) (no_moves pool entry claim release) ∙ append-nil moves)) stands
-
-pub still-few : (pool : ℕ) (entry : CallEntry) → entry.claim ≡ None → entry.release ≡ None → length (moves_of_call pool entry) ≤ 1
-still-few pool entry claim release = rw (no_moves pool entry claim release) (omega arith)
-
-pub placed-words : (rules : Rules) (state : State) (page class word size site : ℕ) → (placed rules state page class word size site).words ≡ 2
-unfolding placed
-placed-words rules state page class word size site = refl
-
-pub placed-release : (rules : Rules) (state : State) (page class word size site : ℕ) → (placed rules state page class word size site).release ≡ None
-unfolding placed
-placed-release rules state page class word size site = refl
-
-pub placed-drawn : (rules : Rules) (state : State) (page class word size site : ℕ) → ((placed rules state page class word size site).next).drawn ≡ state.drawn
-unfolding placed
-placed-drawn rules state page class word size site = refl
-
--- An allocation on the pool's own page.
-pub own-kept : (rules : Rules) (state : State) (entries : List Entry) (table : ZoneTable) (entry : CallEntry) (size site class page : ℕ)
-    → IsKept rules state entries table → IsServed rules size class → own_page (places rules state) state.held class (first_word rules state) ≡ Some page
-    → IsMallocEntry rules state entry size site None ((placed rules (with_two_drawn state) page class (second_word rules state) size site).reply)
-    → entry.looks.items ≡ []
-    → IsKept rules ((placed rules (with_two_drawn state) page class (second_word rules state) size site).next) (entries ++ Call entry ∷ []) table
-own-kept rules state entries table entry size site class page kept served own is no_looks =
-    let step = placed rules (with_two_drawn state) page class (second_word rules state) size site in
-    let held = own_page-held (places rules state) state.held class (first_word rules state) page own in
-    let wish : wish_of rules state entry.op ≡ None = ap (wish_of rules state) is.op ∙ wish-is rules state size site class served ∙ wish-own rules state class page own in
-    let MayAnswerNow : Option Wish → Type 0 = λ w. MayAnswer rules state w (answers_of entry) in
-    let does : IsStep rules state entry step = record {
-      zones = subst MayAnswerNow (sym wish) (is.claim_is, no_looks, is.taken);
-      step_is = ap (λ o. step_of rules state o (answers_of entry)) is.op ∙ step-is rules state size site class (answers_of entry) served ∙ ap Some (malloc-own rules state size site class page entry.claim own);
-      agrees = malloc-agrees rules state entry size site None step is (placed-words rules (with_two_drawn state) page class (second_word rules state) size site) (placed-release rules (with_two_drawn state) page class (second_word rules state) size site);
-    } in
-    kept-step rules state entries table table entry step kept does
-    (stands-still rules.pool (moves_of rules.pool entries) table entry is.claim_is is.release kept.stands)
-    (looked-still rules.pool entries entry kept.looked is.claim_is is.release is.taken no_looks)
-    (still-few rules.pool entry is.claim_is is.release)
-    (rw (placed-drawn rules (with_two_drawn state) page class (second_word rules state) size site) (omega arith))
-    (placed-formed rules (with_two_drawn state) table page class (second_word rules state) size site served held (record { zones = (kept.formed).zones; slots = (kept.formed).slots; ascends = (kept.formed).ascends; arena = (kept.formed).arena; held = (kept.formed).held; live_on = (kept.formed).live_on; slots_on = (kept.formed).slots_on }))
+  pub malloc-does : Does old new who (Malloc size site) answer (first ∷ second ∷ []) answers (λ given. malloc rules state size site given.claim) None
+  malloc-does =
+      let entry = entry_with who (Malloc size site) answer (first ∷ second ∷ []) answers None in
+      let searched : search_word rules entry ≡ Some first = ap (λ o. slice_get (first ∷ second ∷ []) (length (first ∷ second ∷ []) - words_by_class o)) class_is in
+      let one : pages_sought rules entry.op ≡ 1 = ap (pages_by_class rules size) class_is in
+      let Fits : List ℕ → Type 0 = λ pages. FitsZones rules pages (old.journal.items ++ Call entry ∷ []) new.zones in
+      record {
+        may =
+            let wish : wish_of rules state (Malloc size site) ≡ search_unless own 1 first =
+            ap (λ b. if b then malloc_wish rules state size else Nothing) served
+            ∙ chunk-wish rules size class class_is state
+            ∙ ap (λ o. search_unless o 1 (word_at rules state.drawn)) (sym is.own_is)
+            ∙ ap (search_unless own 1) (sym is.first_is) in
+            let May : Wish → Type 0 = λ w. MayAnswer rules state w answers in
+            subst May (sym wish) (may-asked rules state old.zones core.zones.zones core.zones.pages first looks own claim new.zones is.asked);
+        step_is = ap (λ b. if b then Some (malloc rules state size site claim) else None) served;
+        gives_up = record { run_is = ap (λ (s : Step). s.release) (sym malloc-is); inside = tt };
+        reply_is = answer_is ∙ reply-is rules placed.address ∙ ap (λ (s : Step). s.reply) (sym malloc-is);
+        words_are =
+            ap (λ w. w ∷ second ∷ []) is.first_is ∙ ap (λ w. word_at rules state.drawn ∷ w ∷ []) is.second_is
+            ∙ ap (λ (s : Step). words_from rules state.drawn s.words) (sym malloc-is);
+        next = is.next ∙ ap (λ (s : Step). s.next) (sym malloc-is);
+        rules = is.rules;
+        canary = is.canary;
+        room = is.room;
+        added = added;
+        zones = subst Fits (sym held-is) (fits-asked rules old.state.held.items old.journal.items old.zones core.zones entry first refl refl searched one own claim new.zones refl is.asked);
+      }

@@ -1,14 +1,15 @@
 -- Lists of moves, and what one more move changes in them.
-use Rattle.std.proofs.Common.{◌≡◌, ◌≢◌, ℕ, zero, suc, ◌+◌, ◌-◌, ◌%◌, ◌≤◌, Bool, true, false, cond, not, ◌==◌, List, [], ◌∷◌, ◌++◌, length, Option, Some, None, refl, subst, ◌∙◌, ap, arith, add-one, count_by}
+use Rattle.std.proofs.Common.{◌≡◌, ◌≢◌, ℕ, zero, suc, ◌+◌, ◌-◌, ◌≤◌, Bool, true, false, cond, ◌==◌, List, [], ◌∷◌, ◌++◌, length, Option, Some, None, refl, subst, ◌∙◌, ap, arith, add-one, count_by, IfSome}
 use Rattle.std.specs.List.{AllByRecursion, find}
 use Rattle.std.specs.Option.{is_some, option_or}
 use Rattle.std.proofs.lemmas.Bool.{cases_eq, and_from, and_left, and_right, eq-eqb, ne_eqb}
 use Rattle.std.proofs.lemmas.List.Folds.{find-append}
 use Rattle.std.proofs.lemmas.List.Sums.{sum_by-cons, sum_by_push, count_by-le-length}
 use Rattle.om_geom.specs.BitLaws.{fit_of-same}
-use Rattle.om_model.specs.EachLaws.{all-weaker, all-both}
+use Rattle.om_geom.specs.Fit.{searched_bit}
+use Rattle.om_model.proofs.Each.{all-weaker, all-both}
 use Rattle.om_model.specs.declared.entry.ZoneMove.{ZoneMove}
-use Rattle.om_model.specs.ZoneOrder.{IsZoneOrder, IsLawfulMove, is_at, last_version, owner, owner_after}
+use Rattle.om_model.specs.Zones.Order.{IsZoneOrder, IsLawfulMove, is_at, last_version, owner, owner_after, fit_at}
 use Rattle.om_pool.specs.ZoneStand.{IsOwnMove}
 use mathlib.Core.Logic.{⊎_elim}
 
@@ -95,29 +96,29 @@ owner-stable moves m zone bit u next le = owner-same moves m zone bit u (λ v lo
     (cases_eq m.made.zone zone))
 
 -- no move has the next version yet
-not_yet : (number zones : ℕ) (moves : List ZoneMove) (zone : ℕ) → AllByRecursion (IsOwnMove number zones moves) moves → AllByRecursion (λ x. is_at zone (suc (last_version moves zone)) x ≡ false) moves
-not_yet number zones moves zone own = all-weaker (IsOwnMove number zones moves) (λ x. is_at zone (suc (last_version moves zone)) x ≡ false) moves
-    (λ x (mine : IsOwnMove number zones moves x). ⊎_elim
+not_yet : (zones : ℕ) (moves : List ZoneMove) (zone : ℕ) → AllByRecursion (IsOwnMove zones moves) moves → AllByRecursion (λ x. is_at zone (suc (last_version moves zone)) x ≡ false) moves
+not_yet zones moves zone own = all-weaker (IsOwnMove zones moves) (λ x. is_at zone (suc (last_version moves zone)) x ≡ false) moves
+    (λ x (mine : IsOwnMove zones moves x). ⊎_elim
     (λ z. let same = ap (last_version moves) z in let low = mine.version in is_at-other_version zone _ x (λ e. omega arith))
     (λ z. is_at-other_zone zone _ x z)
     (cases_eq x.made.zone zone))
     own
 
 -- who has a bit after the next move
-pub owner-next : (number zones : ℕ) (moves : List ZoneMove) (m : ZoneMove) (bit : ℕ) → AllByRecursion (IsOwnMove number zones moves) moves → m.made.version ≡ last_version moves m.made.zone + 1 → owner (moves ++ m ∷ []) m.made.zone (last_version moves m.made.zone + 1) bit ≡ owner_after (Some m) bit (owner moves m.made.zone (last_version moves m.made.zone) bit)
-owner-next number zones moves m bit own next =
+pub owner-next : (zones : ℕ) (moves : List ZoneMove) (m : ZoneMove) (bit : ℕ) → AllByRecursion (IsOwnMove zones moves) moves → m.made.version ≡ last_version moves m.made.zone + 1 → owner (moves ++ m ∷ []) m.made.zone (last_version moves m.made.zone + 1) bit ≡ owner_after (Some m) bit (owner moves m.made.zone (last_version moves m.made.zone) bit)
+owner-next zones moves m bit own next =
     let zone : ℕ = m.made.zone in
     let last : ℕ = last_version moves zone in
     ap (λ u. owner (moves ++ m ∷ []) zone u bit) (add-one last)
-    ∙ ap (λ o. owner_after o bit (owner (moves ++ m ∷ []) zone last bit)) (find-push_first (is_at zone (suc last)) moves m (find-none _ moves (not_yet number zones moves zone own)) (is_at-true zone (suc last) m refl (omega arith)))
+    ∙ ap (λ o. owner_after o bit (owner (moves ++ m ∷ []) zone last bit)) (find-push_first (is_at zone (suc last)) moves m (find-none _ moves (not_yet zones moves zone own)) (is_at-true zone (suc last) m refl (omega arith)))
     ∙ ap (λ o. owner_after (Some m) bit o) (owner-stable moves m zone bit last next (omega arith))
 
 -- ---- zone order
 
-once-push : (number zones : ℕ) (moves : List ZoneMove) (m : ZoneMove) → AllByRecursion (IsOwnMove number zones moves) moves → IsZoneOrder moves → m.made.version ≡ last_version moves m.made.zone + 1 → (zone version : ℕ) → 1 ≤ version → version ≤ last_version (moves ++ m ∷ []) zone → count_by (is_at zone version) (moves ++ m ∷ []) ≡ 1
-once-push number zones moves m own order next zone version low high = ⊎_elim
+once-push : (zones : ℕ) (moves : List ZoneMove) (m : ZoneMove) → AllByRecursion (IsOwnMove zones moves) moves → IsZoneOrder moves → m.made.version ≡ last_version moves m.made.zone + 1 → (zone version : ℕ) → 1 ≤ version → version ≤ last_version (moves ++ m ∷ []) zone → count_by (is_at zone version) (moves ++ m ∷ []) ≡ 1
+once-push zones moves m own order next zone version low high = ⊎_elim
     (λ z. let same = ap (last_version moves) z in let more = last_version-same moves m zone z in ⊎_elim
-    (λ v. let none : count_by (is_at zone version) moves ≡ 0 = subst (λ u. count_by (is_at zone u) moves ≡ 0) (let e : suc (last_version moves zone) ≡ version = omega arith in e) (count_by-none _ moves (not_yet number zones moves zone own)) in
+    (λ v. let none : count_by (is_at zone version) moves ≡ 0 = subst (λ u. count_by (is_at zone u) moves ≡ 0) (let e : suc (last_version moves zone) ≡ version = omega arith in e) (count_by-none _ moves (not_yet zones moves zone own)) in
     let one = count_by-push_yes (is_at zone version) moves m (is_at-true zone version m z v) in omega arith)
     (λ v. count_by-push_no (is_at zone version) moves m (is_at-other_version zone version m v) ∙ order.once zone version low (omega arith))
     (cases_eq m.made.version version))
@@ -129,7 +130,7 @@ lawful-stable : (moves : List ZoneMove) (m x : ZoneMove) → m.made.version ≡ 
 lawful-stable moves m x next low lawful = record {
   claim = λ t. record {
     clear = λ bit from below. same bit ∙ (lawful.claim t).clear bit from below;
-    first = fit_of-same _ _ x.made.count (x.word % 32) (λ bit lt. ap is_some (same bit)) ∙ (lawful.claim t).first;
+    first = first x.search (lawful.claim t).first;
   };
   release = λ f bit from below. same bit ∙ lawful.release f bit from below;
 }
@@ -137,12 +138,17 @@ lawful-stable moves m x next low lawful = record {
     same : (bit : ℕ) → owner (moves ++ m ∷ []) x.made.zone (x.made.version - 1) bit ≡ owner moves x.made.zone (x.made.version - 1) bit
     same bit = owner-stable moves m x.made.zone bit (x.made.version - 1) next (omega arith)
 
-pub order-push : (number zones : ℕ) (moves : List ZoneMove) (m : ZoneMove) → AllByRecursion (IsOwnMove number zones moves) moves → IsZoneOrder moves → m.made.version ≡ last_version moves m.made.zone + 1 → IsLawfulMove moves m → IsZoneOrder (moves ++ m ∷ [])
-order-push number zones moves m own order next lawful = record {
-  once = once-push number zones moves m own order next;
+    first : (search : Option ℕ) → IfSome search (λ word. fit_at moves x.made.zone (x.made.version - 1) x.made.count word ≡ Some x.made.first)
+        → IfSome search (λ word. fit_at (moves ++ m ∷ []) x.made.zone (x.made.version - 1) x.made.count word ≡ Some x.made.first)
+    first None found = tt
+    first (Some word) found = fit_of-same _ _ x.made.count (searched_bit word) (λ bit lt. ap is_some (same bit)) ∙ found
+
+pub order-push : (zones : ℕ) (moves : List ZoneMove) (m : ZoneMove) → AllByRecursion (IsOwnMove zones moves) moves → IsZoneOrder moves → m.made.version ≡ last_version moves m.made.zone + 1 → IsLawfulMove moves m → IsZoneOrder (moves ++ m ∷ [])
+order-push zones moves m own order next lawful = record {
+  once = once-push zones moves m own order next;
   lawful = all_push (IsLawfulMove (moves ++ m ∷ [])) moves m
-      (all-both (IsOwnMove number zones moves) (IsLawfulMove moves) (IsLawfulMove (moves ++ m ∷ [])) moves
-      (λ x (mine : IsOwnMove number zones moves x) fine. let low = mine.version in lawful-stable moves m x next (omega arith) fine)
+      (all-both (IsOwnMove zones moves) (IsLawfulMove moves) (IsLawfulMove (moves ++ m ∷ [])) moves
+      (λ x (mine : IsOwnMove zones moves x) fine. let low = mine.version in lawful-stable moves m x next (omega arith) fine)
       own order.lawful)
       (lawful-stable moves m m next (omega arith) lawful);
 }

@@ -1,9 +1,12 @@
+pub mod Chunks
 pub mod CoreKept
-pub mod FreeEntry
+pub mod HoldingsView
+pub mod Freeing
 pub mod LooksKept
-pub mod OptionTests
-pub mod PoolKept
+pub mod Placing
 pub mod PoolView
-pub mod Served
+pub mod Questions
+pub mod Standings
 pub mod Zones
+pub mod ZonesKept
 pub mod ZoneStand

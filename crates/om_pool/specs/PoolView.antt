@@ -1,19 +1,22 @@
 -- A pool as its callers see it: the rules by which it answers, its state, its journal, and for how many
 -- calls room is already made.
-use Rattle.std.specs.Prelude.{◌≡◌, ℕ, ◌+◌, ◌≤◌, [], ◌∷◌, ◌++◌}
+use Rattle.std.specs.Prelude.{◌≡◌, ℕ, ◌+◌, ◌≤◌, [], ◌∷◌, ◌++◌, Option}
+use Rattle.om_geom.specs.Numbers.{most_zones}
 use Rattle.om_opts.specs.declared.options.Opts.{Opts}
 use Rattle.om_words.specs.DrawnWords.{Source}
-use Rattle.om_model.specs.Rules.{Rules}
-use Rattle.om_model.specs.PoolState.{State}
-use Rattle.om_model.specs.Entries.{Entries}
-use Rattle.om_model.specs.LawfulJournal.{IsLawful, state_of}
-use Rattle.om_model.specs.ZoneOrder.{IsZoneOrder, moves_of}
-use Rattle.om_model.specs.Looks.{AreLooks}
-use Rattle.om_model.specs.declared.operation.Who.{Who}
-use Rattle.om_model.specs.declared.operation.Op.{Op}
-use Rattle.om_model.specs.declared.reply.Reply.{Reply}
-use Rattle.om_model.specs.declared.entry.CallEntry.{CallEntry}
+use Rattle.om_model.specs.Data.Room.{Entries}
+use Rattle.om_model.specs.Pool.Journal.{IsLawful, GivesUp, MayAnswer, entry_of, state_of, wish_of}
+use Rattle.om_model.specs.Pool.Rules.{Rules}
+use Rattle.om_model.specs.Pool.State.{State}
+use Rattle.om_model.specs.Pool.Steps.{Answers, Step}
+use Rattle.om_model.specs.Zones.Looks.{AreLooks}
+use Rattle.om_model.specs.Zones.Moves.{moves_of}
+use Rattle.om_model.specs.Zones.Order.{IsZoneOrder}
 use Rattle.om_model.specs.declared.entry.Entry.TheVariants.{Call}
+use Rattle.om_model.specs.declared.entry.Move.{Move}
+use Rattle.om_model.specs.declared.operation.Op.{Op}
+use Rattle.om_model.specs.declared.operation.Who.{Who}
+use Rattle.om_model.specs.declared.reply.Reply.{Reply}
 
 pub record PoolView : Type 0 where
   pub rules : Rules
@@ -21,26 +24,32 @@ pub record PoolView : Type 0 where
   pub journal : Entries
   pub spare : ℕ
 
--- the rules of a pool that is alone in an arena of 64 zones
-abbrev pub lone_rules : Opts → Source → Rules
-lone_rules options words = record { options = options; zones = 64; words = words; pool = 0 }
+-- the rules of a pool in an arena of 64 zones
+abbrev pub rules_by : Opts → Source → Rules
+rules_by options words = record { options = options; zones = most_zones; words = words }
 
--- the journal is a run of one pool: it is lawful, its moves are in zone order, its looks are true and in
--- order, and the state is the one that it leaves
+-- the journal is a run of one pool: it is lawful, and the state is the one that it leaves
 pub record IsRun (pool : PoolView) : Type 0 where
   pub lawful : IsLawful pool.rules pool.journal.items
   pub left : pool.state ≡ state_of pool.rules pool.journal.items
-  pub order : IsZoneOrder (moves_of pool.rules.pool pool.journal.items)
-  pub looks : AreLooks (moves_of pool.rules.pool pool.journal.items) pool.journal.items
 
--- one entry was added: of this call, with this reply
-pub record Enters (old new : PoolView) (who : Who) (op : Op) (reply : Reply) : Type 0 where
+-- what holds besides of a pool that is alone in its arena, as number 0: its moves are in zone order, and its
+-- looks are true and in order
+pub record IsAlone (pool : PoolView) : Type 0 where
+  pub order : IsZoneOrder (moves_of pool.rules 0 pool.journal.items)
+  pub looks : AreLooks pool.rules (moves_of pool.rules 0 pool.journal.items) pool.journal.items
+
+-- A call took a step, given what the zones answered: the reply, the release and the state after it are those of
+-- the step, and the entry that shows them was added.
+pub record Takes (old new : PoolView) (who : Who) (op : Op) (reply : Reply) (step : Answers → Step) : Type 0 where
+  pub answers : Answers
+  pub release : Option Move
   pub rules : new.rules ≡ old.rules
-  pub entry : CallEntry
-  pub added : new.journal.items ≡ old.journal.items ++ Call entry ∷ []
-  pub who_is : entry.who ≡ who
-  pub op_is : entry.op ≡ op
-  pub reply_is : entry.reply ≡ reply
+  pub may : MayAnswer old.rules old.state (wish_of old.rules old.state op) answers
+  pub reply_is : reply ≡ (step answers).reply
+  pub gives_up : GivesUp (step answers).release release
+  pub next : new.state ≡ (step answers).next
+  pub added : new.journal.items ≡ old.journal.items ++ Call (entry_of old.rules old.state who op answers (step answers) release) ∷ []
   pub spare : old.spare ≤ new.spare + 1
 
 -- the rules, the state and the entries are the same; room may have been made

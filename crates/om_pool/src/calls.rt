@@ -1,9 +1,11 @@
 //! The calls of a pool.
-ghost use Rattle.std.specs.Prelude.{◌≡◌, ◌-◌, ◌^◌, ◌<◌, ◌≤◌, [], length, IfOk, IsSome, OnOk};
-ghost use Rattle.om_model.specs.LawfulJournal.{served_class};
-ghost use Rattle.om_model.specs.PoolState.{opening};
-ghost use Rattle.om_model.specs.Rules.{canary_byte};
-ghost use Rattle.om_pool.specs.PoolView.{lone_rules, IsRun, Enters, IsAsBefore};
+ghost use Rattle.std.specs.Prelude.{◌≡◌, ◌-◌, ◌^◌, ◌<◌, ◌≤◌, [], length, IfOk, IsTrue, OnOk};
+ghost use Rattle.om_model.specs.Pool.Free.{free};
+ghost use Rattle.om_model.specs.Pool.Journal.{is_served};
+ghost use Rattle.om_model.specs.Pool.Malloc.{malloc};
+ghost use Rattle.om_model.specs.Pool.Rules.{canary_byte};
+ghost use Rattle.om_model.specs.Pool.State.{opening};
+ghost use Rattle.om_pool.specs.PoolView.{rules_by, IsRun, IsAlone, IsAsBefore, Takes};
 
 use crate::pool_core::Core;
 use om_geom::Addr;
@@ -23,11 +25,11 @@ pub struct Pool {
 
 impl Model for Pool {
     ghost use Rattle.om_pool.specs.PoolView.{PoolView};
-    ghost use Rattle.om_pool.specs.CoreKept.{rules_in, state_in, spare_of, IsCore};
+    ghost use Rattle.om_pool.specs.CoreKept.{view_of, IsCore};
 
     ghost Value = { PoolView };
 
-    ghost view = { λ p. record { rules = rules_in p.core; state = state_in p.core; journal = p.core.journal; spare = spare_of p.core } };
+    ghost view = { λ p. view_of p.core };
 
     ghost invariant = { λ p. IsCore p.core };
 }
@@ -36,10 +38,11 @@ impl Pool {
     /// A pool that holds nothing. It draws the first of the words for the canary byte.
     pub fn start(alloc: Global, opts: Opts, words: Words) -> Result<Pool, AllocError>
         requires { words.place ≡ 0 }
-        ensures rules { IfOk result (λ pool. pool.rules ≡ lone_rules opts words.source) }
+        ensures rules { IfOk result (λ pool. pool.rules ≡ rules_by opts words.source) }
         ensures state { IfOk result (λ pool. pool.state ≡ opening) }
         ensures entries { IfOk result (λ pool. pool.journal.items ≡ []) }
-        ensures run { IfOk result (λ pool. IsRun pool) }
+        ensures run { IfOk result IsRun }
+        ensures alone { IfOk result IsAlone }
     {
         Ok(Pool {
             core: Core::new(alloc, opts, words)?,
@@ -52,6 +55,7 @@ impl Pool {
         ensures room { OnOk result (1 ≤ self.new.spare) }
         ensures same { IsAsBefore self.old self.new }
         ensures run { IsRun self.new }
+        ensures alone { IsAlone self.new }
     {
         self.core.reserve()
     }
@@ -61,24 +65,28 @@ impl Pool {
         requires room { 1 ≤ self.old.spare }
         requires short { length self.old.journal.items < 2 ^ 32 - 1 }
         requires own { who.hop ≡ 0 }
-        requires served { IsSome (served_class self.old.rules size) }
-        ensures added { Enters self.old self.new who (Op.Malloc size site) result }
+        requires served { IsTrue (is_served self.old.rules size) }
+        ensures taken { Takes self.old self.new who (Op.Malloc size site) result
+            (λ answers. malloc self.old.rules self.old.state size site answers.claim) }
         ensures before { IsRun self.old }
         ensures run { IsRun self.new }
+        ensures alone { IsAlone self.new }
     {
         let _ = rt;
         self.core.malloc(who, size, site)
     }
 
-    /// Frees an address, as free(3): a place is delayed in the slot that a word chooses, and a page that
-    /// no place needs any more stays, or is released where the free pages with it would be more than the
-    /// cache bound.
+    /// Frees an address, as free(3): a place is delayed in the slot that a word chooses, and a page
+    /// that no place needs any more stays, or is released where more pages are free than the pool
+    /// keeps.
     pub fn free<R: Wait>(&mut self, rt: &R, who: Who, addr: Addr) -> Reply
         requires room { 1 ≤ self.old.spare }
         requires short { length self.old.journal.items < 2 ^ 32 - 1 }
-        ensures added { Enters self.old self.new who (Op.Free addr.0) result }
+        ensures taken { Takes self.old self.new who (Op.Free addr.0) result
+            (λ answers. free self.old.rules self.old.state addr.0) }
         ensures before { IsRun self.old }
         ensures run { IsRun self.new }
+        ensures alone { IsAlone self.new }
     {
         let _ = rt;
         self.core.free(who, addr.0)
@@ -88,6 +96,7 @@ impl Pool {
     pub fn journal(&self) -> &Journal
         ensures journal { result.now ≡ self.now.journal }
         ensures run { IsRun self.now }
+        ensures alone { IsAlone self.now }
     {
         &self.core.journal
     }

@@ -2,9 +2,13 @@
 #![tactic(auto)]
 
 mod calls;
-mod freed;
-mod places;
+mod free;
+mod holdings;
+mod in_use;
+mod malloc;
+mod picks;
 mod pool_core;
+mod standing;
 mod zones;
 
 pub use calls::Pool;

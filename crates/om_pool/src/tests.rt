@@ -1,11 +1,9 @@
-ghost use Rattle.std.specs.Prelude.{◌≡◌, ◌≤◌, [], IfOk, IsSome};
-ghost use Rattle.om_model.specs.LawfulJournal.{served_class};
-
-mod lawful;
+ghost use Rattle.std.specs.Prelude.{◌≡◌, ◌≤◌, [], IfOk, IsTrue};
+ghost use Rattle.om_model.specs.Pool.Journal.{is_served};
 
 use super::*;
 use om_geom::Addr;
-use om_model::{Entry, Fault, Move, Place, Reply, Who, slow};
+use om_model::{Entry, Fault, Move, Reply, Who};
 use om_opts::Opts;
 use om_words::Words;
 use std::alloc::{AllocError, Global};
@@ -33,13 +31,13 @@ fn pool_of(alloc: Global, opts: Opts, word: u32) -> Result<Pool, Fail>
 }
 
 // Allocates, where the journal is still short.
-fn malloc<R: Abort + Wait>(
+fn allocate<R: Abort + Wait>(
     rt: &R,
     pool: &mut Pool,
     command: u32,
     size: u64,
 ) -> Result<Reply, AllocError>
-    requires { IsSome (served_class pool.old.rules size) }
+    requires { IsTrue (is_served pool.old.rules size) }
     ensures { pool.new.rules ≡ pool.old.rules }
 {
     assert!(rt; pool.journal().len() < 2_000);
@@ -47,7 +45,7 @@ fn malloc<R: Abort + Wait>(
     Ok(pool.malloc(rt, who(command), size, 0))
 }
 
-fn free<R: Abort + Wait>(
+fn give_back<R: Abort + Wait>(
     rt: &R,
     pool: &mut Pool,
     command: u32,
@@ -63,22 +61,20 @@ fn free<R: Abort + Wait>(
 // A pool over the words 5, 5, ..: the canary byte is 6, and the block goes on page 5, at place 5.
 #[test]
 fn words_choose_page_and_place(rt: HostRuntime) -> Result<(), Fail> {
-    let mut pool = pool_of(rt.alloc(), Opts::start(), 5)?;
+    let mut pool = pool_of(rt.alloc(), Opts::default(), 5)?;
     assert_eq!(rt; pool.canary(), 6);
-    assert_eq!(rt; malloc(&rt, &mut pool, 1, 100)?, Reply::Block(0x15280));
-    let used: [Place; 0] = [];
-    assert_eq!(rt; slow::picked_place(&used, 5, 128, 5), Some(5));
+    assert_eq!(rt; allocate(&rt, &mut pool, 1, 100)?, Reply::Block(0x15280));
     Ok(())
 }
 
 // With the word 0 alone every free takes slot 0, so a second free is seen.
 #[test]
 fn a_double_free_is_seen(rt: HostRuntime) -> Result<(), Fail> {
-    let mut pool = pool_of(rt.alloc(), Opts::start(), 0)?;
-    assert_eq!(rt; malloc(&rt, &mut pool, 1, 100)?, Reply::Block(0x10000));
-    assert_eq!(rt; free(&rt, &mut pool, 2, 0x10000)?, Reply::Done);
+    let mut pool = pool_of(rt.alloc(), Opts::default(), 0)?;
+    assert_eq!(rt; allocate(&rt, &mut pool, 1, 100)?, Reply::Block(0x10000));
+    assert_eq!(rt; give_back(&rt, &mut pool, 2, 0x10000)?, Reply::Done);
     assert_eq!(rt;
-        free(&rt, &mut pool, 3, 0x10000)?,
+        give_back(&rt, &mut pool, 3, 0x10000)?,
         Reply::Fault(Fault::DoubleFree)
     );
     Ok(())
@@ -88,13 +84,13 @@ fn a_double_free_is_seen(rt: HostRuntime) -> Result<(), Fail> {
 fn freed_twice<R: Abort + Wait>(rt: &R, alloc: Global, freecheck: bool) -> Result<Reply, Fail> {
     let opts = Opts {
         freecheck,
-        ..Opts::start()
+        ..Opts::default()
     };
     let words = Words::listed(vec![in alloc; 1, 0, 0, 1, 2]?)?;
     let mut pool = Pool::start(alloc, opts, words)?;
-    assert_eq!(rt; malloc(rt, &mut pool, 1, 100)?, Reply::Block(0x10000));
-    assert_eq!(rt; free(rt, &mut pool, 2, 0x10000)?, Reply::Done);
-    Ok(free(rt, &mut pool, 3, 0x10000)?)
+    assert_eq!(rt; allocate(rt, &mut pool, 1, 100)?, Reply::Block(0x10000));
+    assert_eq!(rt; give_back(rt, &mut pool, 2, 0x10000)?, Reply::Done);
+    Ok(give_back(rt, &mut pool, 3, 0x10000)?)
 }
 
 #[test]
@@ -110,19 +106,19 @@ fn freecheck_sees_every_slot(rt: HostRuntime) -> Result<(), Fail> {
 fn canaries_take_the_next_class(rt: HostRuntime) -> Result<(), Fail> {
     let opts = Opts {
         canary: true,
-        ..Opts::start()
+        ..Opts::default()
     };
     let mut pool = pool_of(rt.alloc(), opts, 1)?;
-    assert_eq!(rt; malloc(&rt, &mut pool, 1, 128)?, Reply::Block(0x11100));
+    assert_eq!(rt; allocate(&rt, &mut pool, 1, 128)?, Reply::Block(0x11100));
     Ok(())
 }
 
 // Two blocks fill a page, so the blocks lie one behind the other.
 fn fill<R: Abort + Wait>(rt: &R, pool: &mut Pool, blocks: u32) -> Result<(), Fail>
-    requires { IsSome (served_class pool.old.rules 2048) }
+    requires { IsTrue (is_served pool.old.rules 2048) }
 {
     for i in 0..blocks {
-        let block = malloc(rt, pool, i, 2048)?;
+        let block = allocate(rt, pool, i, 2048)?;
         assert_eq!(rt; block, Reply::Block(0x10000 + 2048 * u64::from(i)));
     }
     Ok(())
@@ -130,20 +126,20 @@ fn fill<R: Abort + Wait>(rt: &R, pool: &mut Pool, blocks: u32) -> Result<(), Fai
 
 fn free_all<R: Abort + Wait>(rt: &R, pool: &mut Pool, blocks: u32) -> Result<(), Fail> {
     for i in 0..blocks {
-        let freed = free(rt, pool, i, 0x10000 + 2048 * u64::from(i))?;
+        let freed = give_back(rt, pool, i, 0x10000 + 2048 * u64::from(i))?;
         assert_eq!(rt; freed, Reply::Done);
     }
     Ok(())
 }
 
-// The block that is freed waits, and the one before it becomes free. So the last free but one leaves one
-// free page more than the cache keeps.
+// The block that is freed waits, and the one before it becomes free. So the last free but one
+// leaves one free page more than the cache keeps.
 fn release_past<R: Abort + Wait>(rt: &R, alloc: Global, cache: u32) -> Result<(), Fail>
     requires { cache ≤ 256 }
 {
     let opts = Opts {
         cache,
-        ..Opts::start()
+        ..Opts::default()
     };
     let mut pool = pool_of(alloc, opts, 0)?;
     let blocks = 2 * cache + 4;
@@ -167,7 +163,7 @@ fn release_past<R: Abort + Wait>(rt: &R, alloc: Global, cache: u32) -> Result<()
         };
         assert_eq!(rt; call.release, wanted, "entry {i} at a cache of {cache}");
     }
-    let missed = free(rt, &mut pool, 0, 0x10000 + 4096 * u64::from(cache))?;
+    let missed = give_back(rt, &mut pool, 0, 0x10000 + 4096 * u64::from(cache))?;
     assert_eq!(rt; missed, Reply::Miss);
     Ok(())
 }

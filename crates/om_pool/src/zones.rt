@@ -29,7 +29,8 @@ impl Model for Zones {
 
     ghost view = { λ z. record { bits = z.bits.items; versions = z.versions.items } };
 
-    ghost invariant = { λ z. (vec_len z.bits ≡ vec_len z.versions) × (1 ≤ vec_len z.bits) × (vec_len z.bits ≤ 64) };
+    ghost invariant = { λ z. (vec_len z.bits ≡ vec_len z.versions)
+        × (1 ≤ vec_len z.bits) × (vec_len z.bits ≤ 64) };
 }
 
 impl Zones {
@@ -87,9 +88,11 @@ impl Zones {
         requires room { length self.now.bits ≤ looks.old.spare }
         ensures passed { ArePassed self.now n word looks.new.items }
         ensures none { IfNone result (length looks.new.items ≡ length self.now.bits) }
-        ensures few_passed { IfSome result (λ found. length looks.new.items < length self.now.bits) }
-        ensures zone { IfSome result (λ found. found.zone ≡ searched_in self.now word (length looks.new.items)) }
-        ensures first { IfSome result (λ found. fit_in self.now n word found.zone ≡ Some found.first) }
+        ensures few { IfSome result (λ found. length looks.new.items < length self.now.bits) }
+        ensures zone { IfSome result (λ found.
+            found.zone ≡ searched_in self.now word (length looks.new.items)) }
+        ensures first { IfSome result (λ found.
+            fit_in self.now n word found.zone ≡ Some found.first) }
         ensures within { IfSome result (λ found. found.first + n ≤ 32) }
         ensures spare { looks.old.spare ≤ looks.new.spare + length looks.new.items }
     {
@@ -109,9 +112,16 @@ impl Zones {
     fn put(&mut self, bits: u32, zone: u32, first: u32, count: u32) -> Move
         requires zone { zone < length self.old.bits }
         requires version { version_of self.old zone < 2 ^ 32 - 1 }
-        ensures made { result ≡ record { zone = zone; version = version_of self.old zone + 1; first = first; count = count } }
+        ensures made { result
+            ≡ record {
+              zone = zone;
+              version = version_of self.old zone + 1;
+              first = first;
+              count = count;
+            } }
         ensures bits { self.new.bits ≡ slice_set self.old.bits zone bits }
-        ensures versions { self.new.versions ≡ slice_set self.old.versions zone (version_of self.old zone + 1) }
+        ensures versions { self.new.versions
+            ≡ slice_set self.old.versions zone (version_of self.old zone + 1) }
     {
         let version = self.versions[zone as usize] + 1;
         self.bits[zone as usize] = bits;

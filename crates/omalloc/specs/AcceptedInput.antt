@@ -1,17 +1,19 @@
 -- Accepted input. Line 1 is `script NAME`, then come at most 200,000 lines `malloc V N` or `free V`, and
 -- the last line is `end`. N is decimal, from 1 to 2048. V and NAME are names, and at most 64 different
--- variables are used. One byte 32 stands between two words, and none elsewhere. Each line ends with byte 10, the
--- last perhaps without.
+-- variables are used. One byte 32 stands between two fields of a line, and none elsewhere. Each line ends with
+-- byte 10, the last perhaps without.
 use Rattle.std.specs.Prelude.{ℕ, ◌≡◌, ◌+◌, ◌-◌, ◌*◌, ◌&&◌, ◌==◌, nat_le, nat_lt, List, [], ◌∷◌, ◌++◌, length, fold, codes, Option, Some, None, Result, Ok, Err, if◌then◌else◌, bytes_eq}
 use Rattle.std.specs.List.{slice_split, onto_first, list_all, position_or_len}
 use Rattle.std.specs.Option.{option_map_or, option_map, option_and_then}
-use Rattle.om_model.specs.declared.command.Command.{Command}
-use Rattle.om_model.specs.declared.command.Command.TheVariants.{Malloc, Free}
+use Rattle.om_geom.specs.Numbers.{largest_class}
+use Rattle.om_model.specs.Scripts.Names.{is_digit, is_name}
+use Rattle.omalloc.specs.declared.command.Command.{Command}
+use Rattle.omalloc.specs.declared.command.Command.TheVariants.{Malloc, Free}
 use Rattle.omalloc.specs.declared.script.Request.{Request}
 use Rattle.omalloc.specs.declared.script.Request.TheVariants as request
 use Rattle.omalloc.specs.declared.read.TextStop.{TextStop}
 use Rattle.omalloc.specs.declared.read.TextStop.TheVariants.{Refused, Memory}
-use Rattle.omalloc.specs.Script.{ScriptText, is_digit, is_name}
+use Rattle.omalloc.specs.Script.{ScriptText, most_commands, most_names}
 
 -- the lines end at each byte 10, and the last one perhaps at the end of the text
 abbrev pub text_lines : List ℕ → List (List ℕ)
@@ -19,8 +21,8 @@ text_lines [] = []
 text_lines (b ∷ bs) = if b == 10 then [] ∷ text_lines bs else onto_first b (text_lines bs)
 
 -- what stands between the spaces
-abbrev pub words_of : List ℕ → List (List ℕ)
-words_of line = slice_split (λ b. b == 32) line
+abbrev pub fields_of : List ℕ → List (List ℕ)
+fields_of line = slice_split (λ b. b == 32) line
 
 -- the number that decimal digits stand for
 abbrev pub number_of : List ℕ → ℕ
@@ -28,8 +30,8 @@ number_of digits = fold (λ n b. 10 * n + (b - 48)) 0 digits
 
 -- a size is a number from 1 to 2048
 abbrev pub size_of : List ℕ → Option ℕ
-size_of word =
-    if list_all is_digit word && nat_le 1 (number_of word) && nat_le (number_of word) 2048 then Some (number_of word) else None
+size_of field =
+    if list_all is_digit field && nat_le 1 (number_of field) && nat_le (number_of field) largest_class then Some (number_of field) else None
 
 -- the name that a script's first line gives
 abbrev pub title_of : List (List ℕ) → Option (List ℕ)
@@ -58,7 +60,7 @@ with_name names name = if place_of names name == length names then names ++ name
 -- the script with one command more, if there are not too many commands or names then
 abbrev pub with_command : ScriptText → List ℕ × Request → Option ScriptText
 with_command script r =
-    if nat_lt (length script.commands) 200000 && nat_le (length (with_name script.names r.0)) 64 then
+    if nat_lt (length script.commands) most_commands && nat_le (length (with_name script.names r.0)) most_names then
     Some (record {
       name = script.name;
       names = with_name script.names r.0;
@@ -67,7 +69,7 @@ with_command script r =
     else None
 
 abbrev pub with_line : ScriptText → List (List ℕ) → Option ScriptText
-with_line script words = option_and_then (with_command script) (request_of words)
+with_line script fields = option_and_then (with_command script) (request_of fields)
 
 -- the script where no line is left after `end`, or the number of the one after it
 abbrev pub ended : ℕ → ScriptText → List (List ℕ) → Result ScriptText ℕ
@@ -80,7 +82,7 @@ abbrev pub script_from : ℕ → ScriptText → List (List ℕ) → Result Scrip
 script_from number script [] = Err number
 script_from number script (line ∷ lines) =
     if bytes_eq line (codes "end") then ended number script lines
-    else option_map_or (λ longer. script_from (number + 1) longer lines) (with_line script (words_of line)) (Err number)
+    else option_map_or (λ longer. script_from (number + 1) longer lines) (with_line script (fields_of line)) (Err number)
 
 abbrev pub titled : List ℕ → ScriptText
 titled name = record { name = name; names = []; commands = [] }
@@ -88,7 +90,7 @@ titled name = record { name = name; names = []; commands = [] }
 abbrev pub script_of_lines : List (List ℕ) → Result ScriptText ℕ
 script_of_lines [] = Err 1
 script_of_lines (line ∷ lines) =
-    option_map_or (λ name. script_from 2 (titled name) lines) (title_of (words_of line)) (Err 1)
+    option_map_or (λ name. script_from 2 (titled name) lines) (title_of (fields_of line)) (Err 1)
 
 -- the script that a text says, or the number of the first line that is not of this form
 unfoldable pub script_of : List ℕ → Result ScriptText ℕ

@@ -1,9 +1,10 @@
 pub mod AcceptedInput
 pub mod Answers
-pub mod CommandWords
+pub mod Arguments
 pub mod Headline
 pub mod Heads
-pub mod Refusals
+pub mod Refusal
 pub mod Report
 pub mod Run
 pub mod Script
+pub mod ScriptRun

@@ -1,9 +1,11 @@
--- What is written of one pool and one script, and how far it has come: part of it waits in a buffer.
-use Rattle.std.specs.Prelude.{◌≡◌, ℕ, ◌+◌, ◌≤◌, Option, List, [], ◌∷◌, ◌++◌, length, codes}
-use Rattle.std.specs.List.{flat_map}
-use Rattle.std.specs.Option.{option_map}
-use Rattle.om_model.specs.OutputText.{Head, Content, head_lines, pool_lines, board_lines, script_lines, ended_line}
-use Rattle.om_model.specs.TextParts.{told}
+-- What is written of one pool and one script.
+use Rattle.std.specs.Prelude.{ℕ, List, [], ◌∷◌, ◌++◌, length, codes}
+use Rattle.std.specs.List.{flat_map, position}
+use Rattle.std.specs.Fmt.{decimal}
+use Rattle.om_model.specs.Output.Content.{Content}
+use Rattle.om_model.specs.Output.Head.{Head}
+use Rattle.om_model.specs.Output.Text.{head_lines, pool_title, pool_lines, board_lines, script_lines, ending_line, ended_line}
+use Rattle.om_model.specs.Scripts.Outcomes.{is_fault}
 use Rattle.om_model.specs.declared.entry.Entry.{Entry}
 use Rattle.om_model.specs.declared.reply.Outcome.{Outcome}
 
@@ -13,7 +15,7 @@ content head entries name outcomes = record {
   head = head;
   journals = entries ∷ [];
   board = [];
-  transcripts = told name outcomes ∷ [];
+  transcripts = record { name = name; outcomes = outcomes } ∷ [];
 }
 
 -- the text of the head and the pool
@@ -22,13 +24,17 @@ front_of head entries = flat_map ended_line (head_lines head ++ pool_lines head 
 
 -- the text of the empty board, the script and the last line
 abbrev pub back_of : List ℕ → List Outcome → List ℕ
-back_of name outcomes = flat_map ended_line (board_lines [] ++ script_lines (0, told name outcomes) ++ codes "done" ∷ [])
+back_of name outcomes =
+    flat_map ended_line (board_lines [] ++ script_lines (0, record { name = name; outcomes = outcomes }) ++ codes "done" ∷ [])
 
--- what a sink has taken, and then the text
-abbrev pub followed : Option (List ℕ) → List ℕ → Option (List ℕ)
-followed written text = option_map (λ before. before ++ text) written
+-- the title of the pool
+unfoldable pub title_of : Head → List Entry → List ℕ
+title_of head entries = ended_line (pool_title head 0 (length entries))
 
--- the text was added behind what the sink had taken and the buffer held
-pub record Adds (old new : Option (List ℕ)) (before after text : List ℕ) : Type 0 where
-  pub joined : followed new after ≡ followed old (before ++ text)
-  pub short : length after ≤ length before + length text
+-- above the outcomes stand the titles of the board and of the script, and below them how this ended
+abbrev pub titles_of : List ℕ → List ℕ
+titles_of name =
+    ended_line (codes "board entries " ++ decimal 0) ++ ended_line (codes "script " ++ decimal 0 ++ codes " " ++ name)
+
+abbrev pub end_of : List Outcome → List ℕ
+end_of outcomes = ended_line (ending_line (position is_fault outcomes)) ++ ended_line (codes "done")

@@ -1,35 +1,36 @@
 -- One command on one pool, and a whole script there.
 use Rattle.std.specs.Prelude.{◌≡◌, ℕ, false, List, [], ◌∷◌, ◌++◌, length, Option, Some, None}
-use Rattle.om_model.specs.declared.command.Command.{Command}
 use Rattle.om_model.specs.declared.operation.Op.{Op}
 use Rattle.om_model.specs.declared.operation.Who.{Who}
 use Rattle.om_model.specs.declared.reply.Outcome.{Outcome}
 use Rattle.om_model.specs.declared.reply.Outcome.TheVariants as outcome
-use Rattle.om_model.specs.declared.entry.CallEntry.{CallEntry}
 use Rattle.om_model.specs.declared.entry.Entry.{Entry}
 use Rattle.om_model.specs.declared.entry.Entry.TheVariants.{Call}
-use Rattle.om_model.specs.ScriptRun.{op_of, outcome_of, assigned, is_fault}
-use Rattle.om_model.specs.ScriptCalls.{IsScriptRun, OnlyCallers}
-use Rattle.om_model.specs.OutputText.{Head, rules_of}
+use Rattle.om_model.specs.Data.CallEntry.{CallEntry}
+use Rattle.om_model.specs.Output.Head.{Head, rules_of}
+use Rattle.om_model.specs.Scripts.Calls.{OnlyCallers}
+use Rattle.om_model.specs.Scripts.Outcomes.{outcome_of, is_fault}
 use Rattle.om_pool.specs.PoolView.{PoolView}
+use Rattle.omalloc.specs.declared.command.Command.{Command}
 use Rattle.omalloc.specs.Script.{ScriptText}
+use Rattle.omalloc.specs.ScriptRun.{IsScriptRun, op_of, assigned}
 
 -- the command with this number of the only caller, who asks the only pool
 abbrev pub who_of : ℕ → Who
 who_of number = record { caller = 0; command = number; hop = 0 }
 
 -- the call was made, and its reply is the outcome
-pub record IsCall (number : ℕ) (call : Op) (old new : List Entry) (o : Outcome) : Type 0 where
+pub record IsCall (number : ℕ) (called : Op) (old new : List Entry) (o : Outcome) : Type 0 where
   pub entry : CallEntry
   pub added : new ≡ old ++ Call entry ∷ []
   pub who_is : entry.who ≡ who_of number
-  pub op_is : entry.op ≡ call
-  pub outcome_is : o ≡ outcome_of call entry.reply
+  pub op_is : entry.op ≡ called
+  pub outcome_is : o ≡ outcome_of called entry.reply
 
 -- a command without a call is done, and enters nothing
 abbrev pub IsDone : ℕ → Option Op → List Entry → List Entry → Outcome → Type 0
 IsDone number None old new o = (new ≡ old) × (o ≡ outcome.Done)
-IsDone number (Some call) old new o = IsCall number call old new o
+IsDone number (Some called) old new o = IsCall number called old new o
 
 -- the command with this number had this outcome, and left these values in the variables
 pub record IsCommandRun (number : ℕ) (c : Command) (before after : List ℕ) (old new : List Entry) (o : Outcome) : Type 0 where

@@ -1,9 +1,9 @@
-//! What the reading of lines and of command words shares: cuts at a byte, and digits.
+//! What the reading of lines and of arguments shares: cuts at a byte, and digits.
 
 ghost use Rattle.std.specs.Prelude.{◌≡◌, ◌^◌, ◌<◌, ◌≤◌, ◌==◌, [], ◌∷◌, length, min, IfSome, MatchOption, IsTrue};
 ghost use Rattle.std.specs.List.{list_all, position, slice_split};
 ghost use Rattle.omalloc.specs.AcceptedInput.{number_of};
-ghost use Rattle.omalloc.specs.Script.{is_digit};
+ghost use Rattle.om_model.specs.Scripts.Names.{is_digit};
 
 /// The place of the first such byte.
 pub(crate) fn first_place(text: &[u8], byte: u8) -> Option<usize>
@@ -14,7 +14,9 @@ pub(crate) fn first_place(text: &[u8], byte: u8) -> Option<usize>
 
 /// What stands before the first such byte, and what stands after it.
 pub(crate) fn cut_at(text: &[u8], byte: u8) -> (&[u8], Option<&[u8]>)
-    ensures parts { MatchOption result.1 (slice_split (λ b. b == byte) text.now ≡ result.0.now ∷ []) (λ rest. slice_split (λ b. b == byte) text.now ≡ result.0.now ∷ slice_split (λ b. b == byte) rest.now) }
+    ensures parts { let parts = slice_split (λ b. b == byte) in
+        MatchOption result.1 (parts text.now ≡ result.0.now ∷ [])
+        (λ rest. parts text.now ≡ result.0.now ∷ parts rest.now) }
     ensures shorter { IfSome result.1 (λ rest. length rest.now < length text.now) }
 {
     match first_place(text, byte) {

@@ -1,18 +1,18 @@
-//! The call that is the program: words, source and sink are given, and the answer is a status.
-ghost use Rattle.std.specs.Prelude.{◌≡◌, ◌<◌, ◌≤◌, None, map, string_bytes, IfOk, IfErr};
-ghost use Rattle.omalloc.specs.Answers.{IsAccepted, IsAnswer, IsStop, IsRunAnswer, IsRefusalAnswer, IsComplete, IsWordsAnswer};
-ghost use Rattle.omalloc.specs.CommandWords.{head_of_words};
+//! The call that is the program: arguments, source and sink are given, and the answer is a status.
+ghost use Rattle.std.specs.Prelude.{◌≡◌, None, map, string_bytes, IfOk, IfErr};
+ghost use Rattle.omalloc.specs.Answers.{IsAccepted, IsAnswer, IsStop, IsRunAnswer, IsRefusalAnswer, IsComplete, IsArgumentsAnswer, input_of, output_of};
+ghost use Rattle.omalloc.specs.Arguments.{head_of_arguments};
 ghost use Rattle.omalloc.specs.Heads.{IsHead};
 ghost use Rattle.omalloc.specs.Script.{IsScript};
 
+use crate::arguments::{ArgumentsStop, read_arguments};
 use crate::gate::Gate;
 use crate::read::{TextStop, read};
-use crate::refusal::Refusal;
+use crate::refusal::{ArgumentRefusal, LineRefusal, Refusal};
 use crate::report::{write_line, write_output};
 use crate::run::run_script;
 use crate::script::Script;
 use crate::status::Status;
-use crate::words::{WordsStop, read_words};
 use om_io::{ReadStop, Sink, Source, WriteStop, read_all};
 use om_model::Head;
 use std::alloc::Global;
@@ -26,24 +26,29 @@ pub struct Prepared {
     script: Script,
 }
 
-/// Reads the words, and where they are accepted the source to its end and the script in what was read. It
-/// waits for nobody and always returns.
+/// Reads the arguments, and where they are accepted the source to its end and the script in what was
+/// read. It waits for nobody and always returns.
 pub fn prepare<S: Source>(
     alloc: Global,
-    words: &[String],
+    arguments: &[String],
     source: &mut S,
 ) -> Result<Prepared, Status>
-    ensures accepted { IfOk result (λ prepared. IsAccepted (record { words = map string_bytes words.now; left = S.left source.old; left_after = S.left source.new; failed = S.faults source.old; failed_after = S.faults source.new }) prepared.head prepared.script) }
+    ensures accepted { IfOk result (λ prepared. IsAccepted
+        (input_of S.left S.faults (map string_bytes arguments.now) source.old source.new)
+        prepared.head prepared.script) }
     ensures form { IfOk result (λ prepared. IsHead prepared.head × IsScript prepared.script) }
-    ensures stopped { IfErr result (IsStop (record { words = map string_bytes words.now; left = S.left source.old; left_after = S.left source.new; failed = S.faults source.old; failed_after = S.faults source.new })) }
-    ensures counted { S.faults source.old ≤ S.faults source.new }
+    ensures stopped { IfErr result (IsStop
+        (input_of S.left S.faults (map string_bytes arguments.now) source.old source.new)) }
 {
-    let head = match read_words(alloc, words) {
+    let head = match read_arguments(alloc, arguments) {
         Ok(head) => head,
-        Err(WordsStop::NotBuilt) => {
-            return Err(Status::Refused(Refusal::Words { number: 9, at: 0 }));
+        Err(ArgumentsStop::NotBuilt) => {
+            return Err(Status::Refused(Refusal::Argument {
+                why: ArgumentRefusal::NotBuilt,
+                at: 0,
+            }));
         }
-        Err(WordsStop::Memory) => return Err(Status::Memory),
+        Err(ArgumentsStop::Memory) => return Err(Status::Memory),
     };
     let text = match read_all(alloc, source) {
         Ok(text) => text,
@@ -53,9 +58,10 @@ pub fn prepare<S: Source>(
     };
     match read(alloc, text.as_slice()) {
         Ok(script) => Ok(Prepared { head, script }),
-        Err(TextStop::Refused { line }) => {
-            Err(Status::Refused(Refusal::Line { line, number: 11 }))
-        }
+        Err(TextStop::Refused { line }) => Err(Status::Refused(Refusal::Line {
+            at: line,
+            why: LineRefusal::NotBuilt,
+        })),
         Err(TextStop::Memory) => Err(Status::Memory),
     }
 }
@@ -70,14 +76,14 @@ fn write_run<R: Wait, K: Sink>(
 ) -> Status
     requires head { IsHead head.now }
     requires script { IsScript script.now }
-    ensures answer { IsRunAnswer head.now script.now (record { written = K.written sink.old; written_after = K.written sink.new; failed = K.faults sink.old; failed_after = K.faults sink.new }) result }
-    ensures counted { K.faults sink.old ≤ K.faults sink.new }
+    ensures { IsRunAnswer head.now script.now
+        (output_of K.written K.faults sink.old sink.new) result }
 {
-    let Ok(run) = run_script(rt, alloc, head, script) else {
+    let Ok(ran) = run_script(rt, alloc, head, script) else {
         return Status::Memory;
     };
-    match write_output(alloc, sink, head, &run.pool, script.name(), &run.transcript) {
-        Ok(()) if run.faulted => Status::Faulted,
+    match write_output(alloc, sink, head, &ran.pool, script.name(), &ran.transcript) {
+        Ok(()) if ran.faulted => Status::Faulted,
         Ok(()) => Status::Finished,
         Err(WriteStop::Failed) => Status::WriteFault,
         Err(WriteStop::Memory) => Status::Memory,
@@ -86,8 +92,7 @@ fn write_run<R: Wait, K: Sink>(
 
 // Writes the one line of a refusal.
 fn write_refusal<K: Sink>(alloc: Global, refusal: Refusal, sink: &mut K) -> Status
-    ensures answer { IsRefusalAnswer refusal (record { written = K.written sink.old; written_after = K.written sink.new; failed = K.faults sink.old; failed_after = K.faults sink.new }) result }
-    ensures counted { K.faults sink.old ≤ K.faults sink.new }
+    ensures { IsRefusalAnswer refusal (output_of K.written K.faults sink.old sink.new) result }
 {
     match write_line(alloc, sink, refusal) {
         Ok(()) => Status::Refused(refusal),
@@ -96,19 +101,19 @@ fn write_refusal<K: Sink>(alloc: Global, refusal: Refusal, sink: &mut K) -> Stat
     }
 }
 
-#[tactic(auto, using(crate::proofs::TopLaws::run_answer, crate::proofs::TopLaws::refusal_answer))]
+#[tactic(auto, using(crate::proofs::Answers::run_answer, crate::proofs::Answers::refusal_answer))]
 fn answer<R: Wait, S: Source, K: Sink>(
     rt: &R,
     alloc: Global,
-    words: &[String],
+    arguments: &[String],
     source: &mut S,
     sink: &mut K,
 ) -> Status
-    ensures answer { IsAnswer (record { words = map string_bytes words.now; left = S.left source.old; left_after = S.left source.new; failed = S.faults source.old; failed_after = S.faults source.new }) (record { written = K.written sink.old; written_after = K.written sink.new; failed = K.faults sink.old; failed_after = K.faults sink.new }) result }
-    ensures read_faults { S.faults source.old ≤ S.faults source.new }
-    ensures write_faults { K.faults sink.old ≤ K.faults sink.new }
+    ensures { IsAnswer
+        (input_of S.left S.faults (map string_bytes arguments.now) source.old source.new)
+        (output_of K.written K.faults sink.old sink.new) result }
 {
-    match prepare(alloc, words, source) {
+    match prepare(alloc, arguments, source) {
         Ok(prepared) => write_run(rt, alloc, &prepared.head, &prepared.script, sink),
         Err(Status::Refused(refusal)) => write_refusal(alloc, refusal, sink),
         Err(Status::ReadFault) => Status::ReadFault,
@@ -116,24 +121,27 @@ fn answer<R: Wait, S: Source, K: Sink>(
     }
 }
 
-#[tactic(auto, using(crate::proofs::TopLaws::complete_answer, crate::proofs::TopLaws::words_answer))]
-/// The program: runs the script that the source gives, and writes what came of it, where the words are
-/// `run`, then perhaps `-o` and option letters, then perhaps `-s` and a seed or `-w` and a list of words.
-/// The gate isn't called yet.
+#[tactic(auto, using(crate::proofs::Answers::complete, crate::proofs::Answers::refused))]
+/// The program: runs the script that the source gives, and writes what came of it, where the
+/// arguments are `run`, then perhaps `-o` and option letters, then perhaps `-s` and a seed or `-w` and
+/// a list of words. The gate isn't called yet.
 pub fn omalloc<R: Threads + Wait + Sync, S: Source, K: Sink, G: Gate>(
     rt: &R,
     alloc: Global,
-    words: &[String],
+    arguments: &[String],
     source: &mut S,
     sink: &mut K,
     gate: &G,
 ) -> Status
-    ensures answer { IsAnswer (record { words = map string_bytes words.now; left = S.left source.old; left_after = S.left source.new; failed = S.faults source.old; failed_after = S.faults source.new }) (record { written = K.written sink.old; written_after = K.written sink.new; failed = K.faults sink.old; failed_after = K.faults sink.new }) result }
-    ensures complete { IsComplete (record { words = map string_bytes words.now; left = S.left source.old; left_after = S.left source.new; failed = S.faults source.old; failed_after = S.faults source.new }) (record { written = K.written sink.old; written_after = K.written sink.new; failed = K.faults sink.old; failed_after = K.faults sink.new }) result }
-    ensures words { head_of_words (map string_bytes words.now) ≡ None → IsWordsAnswer result }
-    ensures read_faults { S.faults source.old ≤ S.faults source.new }
-    ensures write_faults { K.faults sink.old ≤ K.faults sink.new }
+    ensures answer { IsAnswer
+        (input_of S.left S.faults (map string_bytes arguments.now) source.old source.new)
+        (output_of K.written K.faults sink.old sink.new) result }
+    ensures complete { IsComplete
+        (input_of S.left S.faults (map string_bytes arguments.now) source.old source.new)
+        (output_of K.written K.faults sink.old sink.new) result }
+    ensures arguments { head_of_arguments (map string_bytes arguments.now) ≡ None
+        → IsArgumentsAnswer result }
 {
     let _ = gate;
-    answer(rt, alloc, words, source, sink)
+    answer(rt, alloc, arguments, source, sink)
 }

@@ -1,8 +1,11 @@
-//! The program: the command words, the top call and what it is made of.
+//! The program: the arguments of the process, the top call and what it is made of.
 #![tactic(auto)]
 
+mod arguments;
 mod bytes;
 mod call;
+mod command;
+mod edge;
 mod gate;
 mod read;
 mod refusal;
@@ -12,42 +15,17 @@ mod script;
 mod status;
 #[cfg(test)]
 mod tests;
-mod text;
-mod words;
 
-use call::omalloc;
+use edge::{arguments_of, call_with, exit_code};
 use gate::NoGate;
 use om_io::{StdSink, StdSource};
-use status::Status;
 use std::process::ExitCode;
 use std::{env, io};
 
-// The words after the program's name; none where one isn't text.
-fn command_words(rt: &HostRuntime) -> Result<Vec<String>, io::Error> {
-    let mut words = Vec::new(rt.alloc());
-    for word in env::args(rt)?.skip(1) {
-        words.push(word)?;
-    }
-    Ok(words)
-}
-
 fn main(rt: HostRuntime) -> ExitCode {
-    let words = match command_words(&rt) {
-        Ok(words) => words,
-        Err(e) if e.kind() == io::ErrorKind::OutOfMemory => {
-            return ExitCode::from(Status::Memory.code());
-        }
-        Err(_) => Vec::new(rt.alloc()),
-    };
+    let all = arguments_of(rt.alloc(), env::args(&rt));
     let mut source = StdSource::new(rt.reader());
     let mut sink = StdSink::new(io::writer(&rt));
-    let status = omalloc(
-        &rt,
-        rt.alloc(),
-        words.as_slice(),
-        &mut source,
-        &mut sink,
-        &NoGate,
-    );
-    ExitCode::from(status.code())
+    let status = call_with(&rt, rt.alloc(), &all, &mut source, &mut sink, &NoGate);
+    exit_code(status)
 }

@@ -1,15 +1,16 @@
 //! The reading of a script's text, line by line.
 
-ghost use Rattle.std.specs.Prelude.{◌≡◌, ◌+◌, ◌≤◌, length, Ok, IfOk, IfErr};
+ghost use Rattle.std.specs.Prelude.{◌≡◌, ◌+◌, ◌*◌, ◌≤◌, length, Ok, IfOk, IfErr};
+ghost use Rattle.om_io.specs.Source.{input_limit};
 ghost use Rattle.omalloc.specs.AcceptedInput.{text_lines, script_from, script_of, Stops};
 ghost use Rattle.omalloc.specs.Script.{IsScript};
 ghost use Rattle.omalloc.specs.declared.read.TextStop.TheVariants.{Memory};
 
-mod words;
+mod lines;
 
 use crate::script::Script;
+use lines::{next_line, request_of, title_of};
 use std::alloc::{AllocError, AllocFailed, Global};
-use words::{next_line, request_of, title_of};
 
 /// Why a text gives no script.
 #[derive(Debug, Drop)]
@@ -44,8 +45,9 @@ fn go_on(
     mut rest: &[u8],
     mut number: u32,
 ) -> Result<Script, TextStop>
-    requires { number + length rest.now ≤ 33554432 }
-    ensures accepted { IfOk result (λ whole. script_from number script (text_lines rest.entry.now) ≡ Ok whole) }
+    requires { number + length rest.now ≤ 2 * input_limit }
+    ensures accepted { IfOk result (λ whole.
+        script_from number script (text_lines rest.entry.now) ≡ Ok whole) }
     ensures refused { IfErr result (Stops (script_from number script (text_lines rest.entry.now))) }
 {
     while let Some((line, more)) = next_line(rest) {
@@ -69,7 +71,7 @@ fn go_on(
 
 #[tactic(auto, unfolding(crate::specs::AcceptedInput::script_of))]
 fn read_text(alloc: Global, text: &[u8]) -> Result<Script, TextStop>
-    requires { length text.now ≤ 16777216 }
+    requires { length text.now ≤ input_limit }
     ensures accepted { IfOk result (λ script. script_of text.now ≡ Ok script) }
     ensures refused { IfErr result (Stops (script_of text.now)) }
 {
@@ -84,7 +86,7 @@ fn read_text(alloc: Global, text: &[u8]) -> Result<Script, TextStop>
 
 /// The script that a text says.
 pub fn read(alloc: Global, text: &[u8]) -> Result<Script, TextStop>
-    requires { length text.now ≤ 16777216 }
+    requires { length text.now ≤ input_limit }
     ensures accepted { IfOk result (λ script. script_of text.now ≡ Ok script) }
     ensures refused { IfErr result (Stops (script_of text.now)) }
     ensures form { IfOk result IsScript }
@@ -95,13 +97,14 @@ pub fn read(alloc: Global, text: &[u8]) -> Result<Script, TextStop>
 #[cfg(test)]
 mod tests {
     use super::*;
-    use om_model::Command;
+    use crate::command::Command;
+    use om_io::INPUT_LIMIT;
     use std::process::Abort;
     use std::test::Fail;
 
     /// The line at which a text is refused, 0 where it is not.
     fn refused_line(rt: &impl Abort, alloc: Global, text: &[u8]) -> u32 {
-        assert!(rt; text.len() <= 16_777_216);
+        assert!(rt; text.len() <= INPUT_LIMIT);
         match read(alloc, text) {
             Err(TextStop::Refused { line }) => line,
             _ => 0,
@@ -163,7 +166,8 @@ mod tests {
         Ok(())
     }
 
-    // Leading zeros, a name of 16 letters, no command, no line end after `end`; 64 names and 200,000 commands.
+    // Leading zeros, a name of 16 letters, no command, no line end after `end`; 64 names and 200,000
+    // commands.
     #[test]
     fn accepts_up_to_the_edges(rt: HostRuntime) -> Result<(), Fail> {
         let names = frees(rt.alloc(), 64)?;
@@ -187,7 +191,7 @@ mod tests {
             (&long, b"a", 1, 200_000),
         ];
         for (text, name, variables, commands) in cases {
-            assert!(rt; text.len() <= 16_777_216);
+            assert!(rt; text.len() <= INPUT_LIMIT);
             let script = read(rt.alloc(), text)?;
             assert_eq!(rt; script.name(), name);
             assert_eq!(rt; script.variables(), variables);

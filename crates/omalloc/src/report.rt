@@ -1,156 +1,154 @@
-//! The output of a run. Lines wait in a buffer until they are many, so that memory doesn't grow with
-//! the output.
-ghost use Rattle.std.specs.Prelude.{◌≡◌, ◌<◌, ◌≤◌, [], ◌++◌, IsErrOf, OnErr, OnOk};
-ghost use Rattle.std.specs.List.{flat_map, enumerate_from, position};
-ghost use Rattle.om_io.specs.Sink.{Appends, AppendsFront};
-ghost use Rattle.om_model.specs.ScriptRun.{is_fault};
-ghost use Rattle.om_model.specs.OutputText.{ended_line, rules_of, text_of};
-ghost use Rattle.omalloc.specs.Refusals.{refusal_line};
-ghost use Rattle.om_model.specs.TextParts.{entry_line, numbered_line};
-ghost use Rattle.om_model.specs.OutputRanges.{IsInRange};
-ghost use Rattle.omalloc.specs.Report.{content, front_of, back_of, Adds};
+//! The output of a run. Lines wait in a buffer until they are many, so that memory doesn't grow
+//! with the output.
+ghost use Rattle.std.specs.Prelude.{◌≡◌, ◌++◌, OnOk};
+ghost use Rattle.std.specs.List.{flat_map, enumerate_from};
+ghost use Rattle.om_io.specs.Buffered.{Adds};
+ghost use Rattle.om_io.specs.Sink.{Writes};
+ghost use Rattle.om_model.specs.Output.Head.{rules_of};
+ghost use Rattle.om_model.specs.Output.Ranges.{IsInRange};
+ghost use Rattle.om_model.specs.Output.Text.{head_lines, ended_line, entry_line, numbered_line, text_of};
+ghost use Rattle.om_pool.specs.PoolView.{IsRun, IsAlone};
+ghost use Rattle.omalloc.specs.Refusal.{refusal_line};
+ghost use Rattle.omalloc.specs.Report.{content, front_of, back_of, title_of, titles_of, end_of};
 
-use crate::refusal::Refusal;
-use crate::text;
-use om_io::{Sink, WriteStop, write_all};
-use om_model::{Entry, Head, Journal, Outcome, Transcript};
+use crate::refusal::{Refusal, push_refusal_line};
+use om_io::{BufferedSink, Sink, WriteStop, write_all};
+use om_model::{Entry, Head, Journal, Outcome, Transcript, text};
 use om_pool::Pool;
-use std::alloc::Global;
+use std::alloc::{AllocError, Global};
 
-// A longer buffer is given to the sink.
-const BUFFER_SIZE: usize = 65536;
-
-fn flush_if_long<K: Sink>(sink: &mut K, buffer: &mut Vec<u8>) -> Result<(), WriteStop>
-    ensures added { OnOk result (Adds (K.written sink.old) (K.written sink.new)
-        buffer.old.items buffer.new.items []) }
-    ensures front { OnErr result (AppendsFront (K.written sink.old) (K.written sink.new)
-        buffer.old.items) }
-    ensures cause { IsErrOf result WriteStop.Failed → K.faults sink.old < K.faults sink.new }
-    ensures counted { K.faults sink.old ≤ K.faults sink.new }
+fn write_entry<K: Sink>(out: &mut BufferedSink<'_, K>, entry: &Entry) -> Result<(), WriteStop>
+    ensures { Adds K.written K.faults out.old out.new (entry_line entry.now) result }
 {
-    if buffer.len() > BUFFER_SIZE {
-        write_all(sink, buffer.as_slice())?;
-        buffer.clear();
-    }
-    Ok(())
-}
-
-fn write_entry<K: Sink>(sink: &mut K, buffer: &mut Vec<u8>, entry: &Entry) -> Result<(), WriteStop>
-    ensures added { OnOk result (Adds (K.written sink.old) (K.written sink.new)
-        buffer.old.items buffer.new.items (entry_line entry.now)) }
-    ensures front { OnErr result (AppendsFront (K.written sink.old) (K.written sink.new)
-        (buffer.old.items ++ entry_line entry.now)) }
-    ensures cause { IsErrOf result WriteStop.Failed → K.faults sink.old < K.faults sink.new }
-    ensures counted { K.faults sink.old ≤ K.faults sink.new }
-{
-    text::push_entry_line(buffer, entry)?;
-    flush_if_long(sink, buffer)
+    text::push_entry_line(out.waiting, entry)?;
+    out.settle()
 }
 
 fn write_outcome<K: Sink>(
-    sink: &mut K,
-    buffer: &mut Vec<u8>,
+    out: &mut BufferedSink<'_, K>,
     number: u32,
     outcome: Outcome,
 ) -> Result<(), WriteStop>
-    ensures added { OnOk result (Adds (K.written sink.old) (K.written sink.new)
-        buffer.old.items buffer.new.items (numbered_line (number, outcome))) }
-    ensures front { OnErr result (AppendsFront (K.written sink.old) (K.written sink.new)
-        (buffer.old.items ++ numbered_line (number, outcome))) }
-    ensures cause { IsErrOf result WriteStop.Failed → K.faults sink.old < K.faults sink.new }
-    ensures counted { K.faults sink.old ≤ K.faults sink.new }
+    ensures { Adds K.written K.faults out.old out.new (numbered_line (number, outcome)) result }
 {
-    text::push_outcome_line(buffer, number, outcome)?;
-    flush_if_long(sink, buffer)
+    text::push_outcome_line(out.waiting, number, outcome)?;
+    out.settle()
 }
 
-fn write_entries<K: Sink>(
-    sink: &mut K,
-    buffer: &mut Vec<u8>,
-    journal: &Journal,
-) -> Result<(), WriteStop>
-    ensures added { OnOk result (Adds (K.written sink.old) (K.written sink.new)
-        buffer.old.items buffer.new.items (flat_map entry_line journal.now.items)) }
-    ensures front { OnErr result (AppendsFront (K.written sink.old) (K.written sink.new)
-        (buffer.old.items ++ flat_map entry_line journal.now.items)) }
-    ensures cause { IsErrOf result WriteStop.Failed → K.faults sink.old < K.faults sink.new }
-    ensures counted { K.faults sink.old ≤ K.faults sink.new }
+fn write_entries<K: Sink>(out: &mut BufferedSink<'_, K>, journal: &Journal) -> Result<(), WriteStop>
+    ensures { Adds K.written K.faults out.old out.new
+        (flat_map entry_line journal.now.items) result }
 {
     for i in 0..journal.len() {
-        write_entry(sink, buffer, journal.entry(i))?;
+        write_entry(out, journal.entry(i))?;
     }
     Ok(())
 }
 
 fn write_outcomes<K: Sink>(
-    sink: &mut K,
-    buffer: &mut Vec<u8>,
+    out: &mut BufferedSink<'_, K>,
     transcript: &Transcript,
 ) -> Result<(), WriteStop>
-    ensures added { OnOk result (Adds (K.written sink.old) (K.written sink.new)
-        buffer.old.items buffer.new.items (flat_map numbered_line (enumerate_from 1 transcript.now))) }
-    ensures front { OnErr result (AppendsFront (K.written sink.old) (K.written sink.new)
-        (buffer.old.items ++ flat_map numbered_line (enumerate_from 1 transcript.now))) }
-    ensures cause { IsErrOf result WriteStop.Failed → K.faults sink.old < K.faults sink.new }
-    ensures counted { K.faults sink.old ≤ K.faults sink.new }
+    ensures { Adds K.written K.faults out.old out.new
+        (flat_map numbered_line (enumerate_from 1 transcript.now)) result }
 {
     for i in 0..transcript.len() {
-        write_outcome(sink, buffer, i + 1, *transcript.outcome(i))?;
+        write_outcome(out, i + 1, *transcript.outcome(i))?;
     }
     Ok(())
 }
 
-// The place of the first fault.
-fn first_fault(transcript: &Transcript) -> Option<u32>
-    ensures { result ≡ position is_fault transcript.now }
+fn write_head<K: Sink>(out: &mut BufferedSink<'_, K>, head: &Head) -> Result<(), WriteStop>
+    ensures { Adds K.written K.faults out.old out.new
+        (flat_map ended_line (head_lines head.now)) result }
 {
-    for place in 0..transcript.len() {
-        if let Outcome::Fault(_) = transcript.outcome(place) {
-            return Some(place);
-        }
-    }
-    None
+    text::push_head(out.waiting, head)?;
+    Ok(())
 }
 
-// Writes the head and the pool.
-fn write_front<K: Sink>(
-    sink: &mut K,
-    buffer: &mut Vec<u8>,
+// Adds the title of the pool.
+#[tactic(auto, unfolding(crate::specs::Report::title_of))]
+fn push_title(waiting: &mut Vec<u8>, head: &Head, pool: &Pool) -> Result<(), AllocError>
+    requires { pool.now.rules ≡ rules_of head.now 0 }
+    ensures { OnOk result (waiting.new.items
+        ≡ waiting.old.items ++ title_of head.now pool.now.journal.items) }
+{
+    let _ = head;
+    text::push_pool_title(waiting, 0, pool.canary(), pool.journal().len())
+}
+
+fn write_title<K: Sink>(
+    out: &mut BufferedSink<'_, K>,
     head: &Head,
     pool: &Pool,
 ) -> Result<(), WriteStop>
     requires { pool.now.rules ≡ rules_of head.now 0 }
-    ensures added { OnOk result (Adds (K.written sink.old) (K.written sink.new)
-        buffer.old.items buffer.new.items (front_of head.now pool.now.journal.items)) }
-    ensures front { OnErr result (AppendsFront (K.written sink.old) (K.written sink.new)
-        (buffer.old.items ++ front_of head.now pool.now.journal.items)) }
-    ensures cause { IsErrOf result WriteStop.Failed → K.faults sink.old < K.faults sink.new }
-    ensures counted { K.faults sink.old ≤ K.faults sink.new }
+    ensures { Adds K.written K.faults out.old out.new
+        (title_of head.now pool.now.journal.items) result }
 {
-    let journal = pool.journal();
-    text::push_head(buffer, head)?;
-    text::push_pool_title(buffer, pool.canary(), journal.len())?;
-    write_entries(sink, buffer, journal)
+    push_title(out.waiting, head, pool)?;
+    Ok(())
 }
 
-// Writes the board, on which nothing is, and the script.
+// Writes the head and the pool.
+fn write_front<K: Sink>(
+    out: &mut BufferedSink<'_, K>,
+    head: &Head,
+    pool: &Pool,
+) -> Result<(), WriteStop>
+    requires { pool.now.rules ≡ rules_of head.now 0 }
+    ensures { Adds K.written K.faults out.old out.new
+        (front_of head.now pool.now.journal.items) result }
+{
+    write_head(out, head)?;
+    write_title(out, head, pool)?;
+    write_entries(out, pool.journal())
+}
+
+// Adds the title of the board, on which nothing is, and of the script.
+fn push_titles(waiting: &mut Vec<u8>, name: &[u8]) -> Result<(), AllocError>
+    ensures { OnOk result (waiting.new.items ≡ waiting.old.items ++ titles_of name.now) }
+{
+    text::push_board_title(waiting, 0)?;
+    text::push_script_title(waiting, 0, name)
+}
+
+fn write_titles<K: Sink>(out: &mut BufferedSink<'_, K>, name: &[u8]) -> Result<(), WriteStop>
+    ensures { Adds K.written K.faults out.old out.new (titles_of name.now) result }
+{
+    push_titles(out.waiting, name)?;
+    Ok(())
+}
+
+// Adds how the script ended, and the last line.
+fn push_end(waiting: &mut Vec<u8>, transcript: &Transcript) -> Result<(), AllocError>
+    ensures { OnOk result (waiting.new.items ≡ waiting.old.items ++ end_of transcript.now) }
+{
+    text::push_ending(waiting, text::first_fault(transcript))?;
+    waiting.extend_from_slice(b"done\n")
+}
+
+fn write_end<K: Sink>(
+    out: &mut BufferedSink<'_, K>,
+    transcript: &Transcript,
+) -> Result<(), WriteStop>
+    ensures { Adds K.written K.faults out.old out.new (end_of transcript.now) result }
+{
+    push_end(out.waiting, transcript)?;
+    Ok(())
+}
+
+// Writes the board and the script.
 fn write_back<K: Sink>(
-    sink: &mut K,
-    buffer: &mut Vec<u8>,
+    out: &mut BufferedSink<'_, K>,
     name: &[u8],
     transcript: &Transcript,
 ) -> Result<(), WriteStop>
-    ensures added { OnOk result (Adds (K.written sink.old) (K.written sink.new)
-        buffer.old.items buffer.new.items (back_of name.now transcript.now)) }
-    ensures front { OnErr result (AppendsFront (K.written sink.old) (K.written sink.new)
-        (buffer.old.items ++ back_of name.now transcript.now)) }
-    ensures cause { IsErrOf result WriteStop.Failed → K.faults sink.old < K.faults sink.new }
-    ensures counted { K.faults sink.old ≤ K.faults sink.new }
+    ensures { Adds K.written K.faults out.old out.new (back_of name.now transcript.now) result }
 {
-    text::push_script_title(buffer, name)?;
-    write_outcomes(sink, buffer, transcript)?;
-    text::push_ending(buffer, first_fault(transcript))?;
-    Ok(())
+    write_titles(out, name)?;
+    write_outcomes(out, transcript)?;
+    write_end(out, transcript)
 }
 
 // Every number that is told is one that its type holds.
@@ -160,6 +158,21 @@ fn numbers_fit(head: &Head, journal: &Journal, _name: &[u8], transcript: &Transc
     head.fits();
     journal.fits();
     transcript.fits();
+}
+
+fn write_text<K: Sink>(
+    out: &mut BufferedSink<'_, K>,
+    head: &Head,
+    pool: &Pool,
+    name: &[u8],
+    transcript: &Transcript,
+) -> Result<(), WriteStop>
+    requires { pool.now.rules ≡ rules_of head.now 0 }
+    ensures { Adds K.written K.faults out.old out.new
+        (text_of (content head.now pool.now.journal.items name.now transcript.now)) result }
+{
+    write_front(out, head, pool)?;
+    write_back(out, name, transcript)
 }
 
 /// Writes the whole output of the one pool under a head and a script with this transcript.
@@ -172,19 +185,17 @@ pub(crate) fn write_output<K: Sink>(
     transcript: &Transcript,
 ) -> Result<(), WriteStop>
     requires { pool.now.rules ≡ rules_of head.now 0 }
-    ensures added { OnOk result (Appends (K.written sink.old) (K.written sink.new)
-        (text_of (content head.now pool.now.journal.items name.now transcript.now))) }
-    ensures front { OnErr result (AppendsFront (K.written sink.old) (K.written sink.new)
-        (text_of (content head.now pool.now.journal.items name.now transcript.now))) }
-    ensures cause { IsErrOf result WriteStop.Failed → K.faults sink.old < K.faults sink.new }
-    ensures numbers { IsInRange (content head.now pool.now.journal.items name.now transcript.now) }
-    ensures counted { K.faults sink.old ≤ K.faults sink.new }
+    ensures written { Writes K.written K.faults sink.old sink.new
+        (text_of (content head.now pool.now.journal.items name.now transcript.now)) result }
+    ensures numbers { IsInRange
+        (content head.now pool.now.journal.items name.now transcript.now) }
+    ensures run { IsRun pool.now × IsAlone pool.now }
 {
     numbers_fit(head, pool.journal(), name, transcript);
-    let mut buffer = Vec::new(alloc);
-    write_front(sink, &mut buffer, head, pool)?;
-    write_back(sink, &mut buffer, name, transcript)?;
-    write_all(sink, buffer.as_slice())
+    let mut waiting = Vec::new(alloc);
+    let mut out = BufferedSink::new(sink, &mut waiting);
+    write_text(&mut out, head, pool, name, transcript)?;
+    out.flush()
 }
 
 /// Writes the one line of a refusal.
@@ -193,24 +204,20 @@ pub(crate) fn write_line<K: Sink>(
     sink: &mut K,
     refusal: Refusal,
 ) -> Result<(), WriteStop>
-    ensures added { OnOk result (Appends (K.written sink.old) (K.written sink.new)
-        (ended_line (refusal_line refusal))) }
-    ensures front { OnErr result (AppendsFront (K.written sink.old) (K.written sink.new)
-        (ended_line (refusal_line refusal))) }
-    ensures cause { IsErrOf result WriteStop.Failed → K.faults sink.old < K.faults sink.new }
-    ensures counted { K.faults sink.old ≤ K.faults sink.new }
+    ensures { Writes K.written K.faults sink.old sink.new (refusal_line refusal) result }
 {
     let mut line = Vec::new(alloc);
-    text::push_refusal_line(&mut line, refusal)?;
+    push_refusal_line(&mut line, refusal)?;
     write_all(sink, line.as_slice())
 }
 
 #[cfg(test)]
 mod tests {
     use super::*;
+    use crate::arguments::read_arguments;
     use crate::read::read;
+    use crate::refusal::LineRefusal;
     use crate::run::run_script;
-    use crate::words::read_words;
     use om_io::MemSink;
     use std::test::Fail;
 
@@ -230,21 +237,21 @@ done
 
     #[test]
     fn a_block_and_its_free(rt: HostRuntime) -> Result<(), Fail> {
-        let mut words = Vec::new(rt.alloc());
-        for word in ["run", "-w", "0"] {
-            words.push(String::from_str(rt.alloc(), word)?)?;
+        let mut arguments = Vec::new(rt.alloc());
+        for argument in ["run", "-w", "0"] {
+            arguments.push(String::from_str(rt.alloc(), argument)?)?;
         }
-        let head = read_words(rt.alloc(), &words)?;
+        let head = read_arguments(rt.alloc(), &arguments)?;
         let script = read(rt.alloc(), b"script a\nmalloc x 100\nfree x\nend\n")?;
-        let run = run_script(&rt, rt.alloc(), &head, &script)?;
+        let ran = run_script(&rt, rt.alloc(), &head, &script)?;
         let mut sink = MemSink::new(rt.alloc(), 7, Vec::new(rt.alloc()));
         write_output(
             rt.alloc(),
             &mut sink,
             &head,
-            &run.pool,
+            &ran.pool,
             script.name(),
-            &run.transcript,
+            &ran.transcript,
         )?;
         assert_eq!(rt; sink.bytes(), TEXT);
         Ok(())
@@ -257,8 +264,8 @@ done
             rt.alloc(),
             &mut sink,
             Refusal::Line {
-                line: 2,
-                number: 11,
+                at: 2,
+                why: LineRefusal::NotBuilt,
             },
         )?;
         assert_eq!(rt; sink.bytes(), b"refused line 2 11 NotBuilt\n".as_slice());

@@ -1,22 +1,23 @@
 //! A script on a pool of its own.
 ghost use Rattle.std.specs.Prelude.{◌≡◌, ℕ, ◌+◌, ◌-◌, ◌^◌, ◌<◌, ◌≤◌, length, vec_len, IfOk, true, false};
 ghost use Rattle.std.specs.List.{list_any};
-ghost use Rattle.om_model.specs.ScriptRun.{outcome_of, is_fault, given};
-ghost use Rattle.om_pool.specs.PoolView.{IsRun};
+ghost use Rattle.om_model.specs.Scripts.Outcomes.{outcome_of, is_fault};
+ghost use Rattle.omalloc.specs.ScriptRun.{given};
 ghost use Rattle.omalloc.specs.Heads.{IsHead};
 ghost use Rattle.omalloc.specs.Run.{IsCommandRun, RanAlone};
 ghost use Rattle.omalloc.specs.Script.{IsScript, IsCommand};
 
+use crate::command::Command;
 use crate::script::Script;
 use om_geom::Addr;
-use om_model::{Command, Fault, Head, Op, Outcome, Reply, Transcript, Who};
+use om_model::{Fault, Head, Op, Outcome, Reply, Transcript, Who};
 use om_pool::Pool;
 use std::alloc::{AllocError, Global};
 use std::sync::Wait;
 
 /// A pool after a script, and the outcomes of the script's commands.
 #[derive(Drop)]
-pub struct Run {
+pub struct Ran {
     /// The pool after the script.
     pub pool: Pool,
     /// What became of the commands that were done.
@@ -55,6 +56,7 @@ fn is_fault(outcome: Outcome) -> bool
 }
 
 // One command of the only script, asked of the only pool.
+#[tactic(auto, using(crate::proofs::ScriptRun::size_served))]
 fn run_command<R: Wait>(
     rt: &R,
     pool: &mut Pool,
@@ -65,8 +67,8 @@ fn run_command<R: Wait>(
     requires short { length pool.old.journal.items < 2 ^ 32 - 1 }
     requires form { IsCommand (vec_len values.old) command }
     requires plain { pool.old.rules.options.canary ≡ false }
-    ensures ran { IfOk result (λ outcome. IsCommandRun number command values.old.items values.new.items pool.old.journal.items pool.new.journal.items outcome) }
-    ensures run { IsRun pool.old → IsRun pool.new }
+    ensures ran { IfOk result (λ outcome. IsCommandRun number command
+        values.old.items values.new.items pool.old.journal.items pool.new.journal.items outcome) }
     ensures rules { pool.new.rules ≡ pool.old.rules }
     ensures entries { length pool.new.journal.items ≤ length pool.old.journal.items + 1 }
     ensures variables { vec_len values.new ≡ vec_len values.old }
@@ -100,12 +102,11 @@ pub fn run_script<R: Wait>(
     alloc: Global,
     head: &Head,
     script: &Script,
-) -> Result<Run, AllocError>
+) -> Result<Ran, AllocError>
     requires head { IsHead head.now }
     requires script { IsScript script.now }
-    ensures ran { IfOk result (λ run. RanAlone head.now script.now run.pool run.transcript) }
-    ensures run { IfOk result (λ run. IsRun run.pool) }
-    ensures faulted { IfOk result (λ run. run.faulted ≡ list_any is_fault run.transcript) }
+    ensures ran { IfOk result (λ ran. RanAlone head.now script.now ran.pool ran.transcript) }
+    ensures faulted { IfOk result (λ ran. ran.faulted ≡ list_any is_fault ran.transcript) }
 {
     let words = head.plan.words(alloc, 0)?;
     let mut pool = Pool::start(alloc, head.opts, words)?;
@@ -115,14 +116,14 @@ pub fn run_script<R: Wait>(
         let outcome = run_command(rt, &mut pool, &mut values, i as u32 + 1, *command)?;
         transcript.push(outcome)?;
         if is_fault(outcome) {
-            return Ok(Run {
+            return Ok(Ran {
                 pool,
                 transcript,
                 faulted: true,
             });
         }
     }
-    Ok(Run {
+    Ok(Ran {
         pool,
         transcript,
         faulted: false,

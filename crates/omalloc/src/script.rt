@@ -2,9 +2,15 @@ ghost use Rattle.std.specs.Prelude.{◌≡◌, ◌≤◌, length, map, bytes_eq,
 ghost use Rattle.std.specs.List.{position};
 ghost use Rattle.omalloc.specs.AcceptedInput.{titled, with_command, command_of, place_of};
 
-use om_model::Command;
+use crate::command::Command;
 use std::alloc::{AllocError, Global};
 use std::marker::Model;
+
+/// The most commands of a script.
+const MOST_COMMANDS: usize = 200_000;
+
+/// The most names of variables in a script.
+const MOST_NAMES: usize = 64;
 
 /// What a command asks, before its variable has a place.
 #[derive(Clone, Copy, Debug, PartialEq, Eq)]
@@ -46,13 +52,18 @@ pub struct Script {
 
 impl Model for Script {
     ghost use Rattle.std.specs.Prelude.{◌≤◌, map, vec_len};
-    ghost use Rattle.omalloc.specs.Script.{ScriptText};
+    ghost use Rattle.omalloc.specs.Script.{ScriptText, most_commands, most_names};
 
     ghost Value = { ScriptText };
 
-    ghost view = { λ s. record { name = s.name.items; names = map (λ n. n.items) s.names.items; commands = s.commands.items } };
+    ghost view = { λ s. record {
+      name = s.name.items;
+      names = map (λ n. n.items) s.names.items;
+      commands = s.commands.items;
+    } };
 
-    ghost invariant = { λ s. (vec_len s.names ≤ 64) × (vec_len s.commands ≤ 200000) };
+    ghost invariant = { λ s.
+        (vec_len s.names ≤ most_names) × (vec_len s.commands ≤ most_commands) };
 }
 
 impl Script {
@@ -69,12 +80,13 @@ impl Script {
 
     /// Adds a command for the variable of this name, and says whether it found room.
     pub fn add(&mut self, alloc: Global, name: &[u8], request: Request) -> Result<bool, AllocError>
-        ensures added { IfOk result (λ found. with_command self.old (name.now, request) ≡ (if found then Some self.new else None)) }
+        ensures added { IfOk result (λ found. with_command self.old (name.now, request)
+            ≡ (if found then Some self.new else None)) }
         ensures full { IfOk result (λ found. found ≡ false → self.new ≡ self.old) }
         ensures err { OnErr result (self.new ≡ self.old) }
     {
         let var = place_of(&self.names, name);
-        if self.commands.len() >= 200_000 || var >= 64 {
+        if self.commands.len() >= MOST_COMMANDS || var >= MOST_NAMES {
             return Ok(false);
         }
         self.commands.reserve(1)?;

@@ -10,7 +10,7 @@ pub enum Status {
     Finished,
     /// A fault ended the script, and the whole output was written.
     Faulted,
-    /// The words or the text aren't accepted.
+    /// The arguments or the text aren't accepted.
     Refused(Refusal),
     /// No memory was there.
     Memory,

@@ -1,10 +1,11 @@
 //! Whole runs, over sources and sinks in memory. The expected texts are computed by hand.
 
 mod plain;
+mod script_run;
 
 use crate::call::omalloc;
 use crate::gate::NoGate;
-use crate::refusal::Refusal;
+use crate::refusal::{ArgumentRefusal, LineRefusal, Refusal};
 use crate::status::Status;
 use om_io::{MemSink, MemSource};
 use std::alloc::{AllocError, Global};
@@ -94,30 +95,30 @@ finished
 done
 ";
 
-// The words of a line; a space more makes an empty word.
-fn words_of(alloc: Global, line: &str) -> Result<Vec<String>, AllocError> {
-    let mut words = Vec::new(alloc);
+// The arguments of a line; a space more makes an empty one.
+fn arguments_of(alloc: Global, line: &str) -> Result<Vec<String>, AllocError> {
+    let mut arguments = Vec::new(alloc);
     if line.is_empty() {
-        return Ok(words);
+        return Ok(arguments);
     }
-    for word in line.split(' ') {
-        words.push(String::from_str(alloc, word)?)?;
+    for argument in line.split(' ') {
+        arguments.push(String::from_str(alloc, argument)?)?;
     }
-    Ok(words)
+    Ok(arguments)
 }
 
-// The answer to a line of words and a text, and what was written.
+// The answer to a line of arguments and a text, and what was written.
 fn answer_of<R: Threads + Wait + Sync>(
     rt: &R,
     alloc: Global,
     line: &str,
     text: &str,
 ) -> Result<(Status, MemSink), AllocError> {
-    let words = words_of(alloc, line)?;
+    let arguments = arguments_of(alloc, line)?;
     let bytes = text.as_bytes().to_vec(alloc)?;
     let mut source = MemSource::new(bytes, 7, Vec::new(alloc));
     let mut sink = MemSink::new(alloc, 5, Vec::new(alloc));
-    let answer = omalloc(rt, alloc, &words, &mut source, &mut sink, &NoGate);
+    let answer = omalloc(rt, alloc, &arguments, &mut source, &mut sink, &NoGate);
     Ok((answer, sink))
 }
 
@@ -137,8 +138,8 @@ fn writes_what_came_of_the_input(rt: HostRuntime) -> Result<(), Fail> {
             "script a\nmalloc x 2049\nend\n",
             "refused line 2 11 NotBuilt\n",
             Status::Refused(Refusal::Line {
-                line: 2,
-                number: 11,
+                at: 2,
+                why: LineRefusal::NotBuilt,
             }),
             2,
         ),
@@ -156,7 +157,10 @@ fn writes_what_came_of_the_input(rt: HostRuntime) -> Result<(), Fail> {
             "stress 16 1",
             SCRIPT,
             "refused words 9 NotBuilt at 0\n",
-            Status::Refused(Refusal::Words { number: 9, at: 0 }),
+            Status::Refused(Refusal::Argument {
+                why: ArgumentRefusal::NotBuilt,
+                at: 0,
+            }),
             2,
         ),
         (
@@ -164,8 +168,8 @@ fn writes_what_came_of_the_input(rt: HostRuntime) -> Result<(), Fail> {
             "",
             "refused line 1 11 NotBuilt\n",
             Status::Refused(Refusal::Line {
-                line: 1,
-                number: 11,
+                at: 1,
+                why: LineRefusal::NotBuilt,
             }),
             2,
         ),
@@ -186,11 +190,11 @@ fn failures_come_where_a_call_fails(rt: HostRuntime) -> Result<(), Fail> {
         (0, 2, "o", Status::WriteFault, 5),
     ];
     for (failing_read, failing_write, written, status, code) in cases {
-        let words = words_of(rt.alloc(), "run -w 0")?;
+        let arguments = arguments_of(rt.alloc(), "run -w 0")?;
         let bytes = SCRIPT.as_bytes().to_vec(rt.alloc())?;
         let mut source = MemSource::new(bytes, 1, vec![in rt.alloc(); failing_read]?);
         let mut sink = MemSink::new(rt.alloc(), 1, vec![in rt.alloc(); failing_write]?);
-        let answer = omalloc(&rt, rt.alloc(), &words, &mut source, &mut sink, &NoGate);
+        let answer = omalloc(&rt, rt.alloc(), &arguments, &mut source, &mut sink, &NoGate);
         assert_eq!(rt; answer, status);
         assert_eq!(rt; answer.code(), code);
         assert_eq!(rt; sink.bytes(), written.as_bytes());
@@ -199,7 +203,7 @@ fn failures_come_where_a_call_fails(rt: HostRuntime) -> Result<(), Fail> {
 }
 
 #[test]
-fn other_words_are_refused(rt: HostRuntime) -> Result<(), Fail> {
+fn other_arguments_are_refused(rt: HostRuntime) -> Result<(), Fail> {
     let lines = [
         "",
         "run -o",
@@ -244,7 +248,10 @@ fn other_words_are_refused(rt: HostRuntime) -> Result<(), Fail> {
     ];
     for line in lines {
         let (answer, sink) = answer_of(&rt, rt.alloc(), line, SCRIPT)?;
-        let refused = Status::Refused(Refusal::Words { number: 9, at: 0 });
+        let refused = Status::Refused(Refusal::Argument {
+            why: ArgumentRefusal::NotBuilt,
+            at: 0,
+        });
         assert_eq!(rt; answer, refused, "{line}");
         assert_eq!(rt;
             sink.bytes(),
@@ -255,9 +262,9 @@ fn other_words_are_refused(rt: HostRuntime) -> Result<(), Fail> {
     Ok(())
 }
 
-// The words, then how the output tells them, and the canary byte that their first one gives.
+// The arguments, then how the output tells their words, and the canary byte that the first word gives.
 #[test]
-fn words_at_the_edges(rt: HostRuntime) -> Result<(), Fail> {
+fn arguments_at_the_edges(rt: HostRuntime) -> Result<(), Fail> {
     let cases = [
         ("run", "seed 0", "5e"),
         ("run -o ", "seed 0", "5e"),
@@ -393,11 +400,11 @@ fn a_longer_input_is_refused(rt: HostRuntime) -> Result<(), Fail> {
         (16_777_216, "refused line 1 11 NotBuilt\n"),
     ];
     for (length, written) in cases {
-        let words = words_of(rt.alloc(), "run -w 0")?;
+        let arguments = arguments_of(rt.alloc(), "run -w 0")?;
         let bytes = vec![in rt.alloc(); b'\n'; length]?;
         let mut source = MemSource::new(bytes, 65536, Vec::new(rt.alloc()));
         let mut sink = MemSink::new(rt.alloc(), 64, Vec::new(rt.alloc()));
-        let answer = omalloc(&rt, rt.alloc(), &words, &mut source, &mut sink, &NoGate);
+        let answer = omalloc(&rt, rt.alloc(), &arguments, &mut source, &mut sink, &NoGate);
         assert_eq!(rt; answer.code(), 2);
         assert_eq!(rt; sink.bytes(), written.as_bytes());
     }

@@ -1,20 +1,19 @@
-//! Calls of a script: how they stand in the journals, and whether these are those of a run.
-ghost use Rattle.std.specs.Prelude.{◌≡◌, ◌+◌, ◌-◌, ◌%◌, ◌^◌, ◌<◌, ◌≤◌, ◌↔◌, ◌++◌, [], length, map, slice_index_or, IsTrue, IfOk, OnOk};
-ghost use Rattle.std.specs.List.{flat_map, list_any, range_with_len, AllByRecursion};
-ghost use Rattle.om_model.specs.Entries.{entries_of};
-ghost use Rattle.om_model.specs.LawfulJournal.{phase_numbers};
-ghost use Rattle.om_model.specs.ScriptCalls.{IsSearch, IsAnswered, CallerBelow, asked_in as asked_by, seen_in as seen_by, AreCalls, OnlyCallers, IsScriptRun, last_reply as last_of};
-ghost use Rattle.om_model.specs.SlowCalls.{answered_in, answers_in, begun_by, calls_read as calls_shown, reply_to, replies_to as replies_in, seen_at as seen_by_pool, IsRunWith};
-ghost use Rattle.om_model.specs.ScriptRun.{IsEnded, is_fault as is_fault_outcome};
-ghost use Rattle.om_model.specs.SlowScripts.{ran_in};
+//! Calls of a script: how they stand in the journals, and how they are read from them.
+ghost use Rattle.std.specs.Prelude.{◌≡◌, ◌+◌, ◌-◌, ◌%◌, ◌<◌, ◌≤◌, ◌↔◌, ◌++◌, List, [], ◌∷◌, map, slice_index_or, IsTrue, IfOk, OnOk};
+ghost use Rattle.std.specs.List.{flat_map, AllByRecursion};
+ghost use Rattle.om_model.specs.Data.Room.{entries_of};
+ghost use Rattle.om_model.specs.Pool.WellFormed.{EachPair};
+ghost use Rattle.om_model.specs.Scripts.Calls.{IsSearch, IsAnswered, CallerBelow, asked_in, seen_of, seen_from, seen_in, AreCalls, OnlyCallers};
+ghost use Rattle.om_model.specs.Slow.{answered_in, answers_in, begun_by, reply_to, replies_to, seen_at};
+ghost use Rattle.om_model.specs.declared.entry.Entry.{Entry};
+ghost use Rattle.om_model.specs.declared.operation.Call.{Call};
+ghost use Rattle.om_model.specs.declared.reply.Reply.{Reply};
 
-use super::journals::{are_same, counted, phases_of};
-use super::scripts::{Ran, is_fault, script_run};
-use crate::command::Command;
-use crate::entry::{Asked, Entry};
+use super::journal::{are_counted, counted, phase_numbers};
+use crate::entry::{Asked, CallEntry, Entry};
 use crate::journal::Journal;
 use crate::operation::{Call, Op};
-use crate::reply::{Outcome, Reply};
+use crate::reply::Reply;
 use std::alloc::{AllocError, Global};
 
 /// A call of a script, and the replies of the pools that it asked.
@@ -49,6 +48,19 @@ fn is_answered(pools: u32, op: Op, replies: &[Reply]) -> bool
     }
 }
 
+// Whether each call may have had its replies.
+fn are_answered(pools: u32, answered: &[Answered]) -> bool
+    ensures { IsTrue result ↔
+        AllByRecursion (λ a. IsAnswered pools (a.0).op a.1) (answers_in answered.now) }
+{
+    for one in answered {
+        if !is_answered(pools, one.call.op, &one.replies) {
+            return false;
+        }
+    }
+    true
+}
+
 // What the pool's journal should show of the call.
 fn push_asked(
     asked: &mut Vec<Asked>,
@@ -58,13 +70,15 @@ fn push_asked(
     answered: &Answered,
 ) -> Result<(), AllocError>
     requires { 1 ≤ pools }
-    ensures { OnOk result (asked.new.items ≡ asked.old.items ++ asked_by pools caller pool (answered_in answered.now)) }
+    ensures { OnOk result (asked.new.items ≡ asked.old.items ++
+        asked_in pools caller pool (answered_in answered.now)) }
 {
     let call = answered.call;
     for (hop, reply) in answered.replies.iter().enumerate() {
         if (u128::from(caller) + hop as u128) % u128::from(pools) == u128::from(pool) {
             asked.push(Asked {
                 command: call.command,
+                phase: call.phase,
                 hop: hop as u64,
                 op: call.op,
                 reply: *reply,
@@ -83,7 +97,8 @@ fn asked_in(
     answered: &[Answered],
 ) -> Result<Vec<Asked>, AllocError>
     requires { 1 ≤ pools }
-    ensures { IfOk result (λ asked. asked.items ≡ flat_map (asked_by pools caller pool) (answers_in answered.now)) }
+    ensures { IfOk result (λ asked. asked.items ≡
+        flat_map (asked_in pools caller pool) (answers_in answered.now)) }
 {
     let mut asked = Vec::new(alloc);
     for one in answered {
@@ -92,81 +107,57 @@ fn asked_in(
     Ok(asked)
 }
 
-// What a journal shows of the caller.
-fn seen_in(alloc: Global, caller: u32, journal: &Journal) -> Result<Vec<Asked>, AllocError>
-    ensures { IfOk result (λ seen. seen.items ≡ flat_map (seen_by caller) journal.now.items) }
+// What the entry of a call in this phase shows of the caller.
+fn push_seen(
+    seen: &mut Vec<Asked>,
+    caller: u32,
+    phase: u32,
+    call: &CallEntry,
+) -> Result<(), AllocError>
+    ensures { OnOk result (seen.new.items ≡ seen.old.items ++ seen_of caller phase call.now) }
 {
-    let mut seen = Vec::new(alloc);
-    for i in 0..journal.len() {
-        push_seen(&mut seen, caller, journal.entry(i))?;
-    }
-    Ok(seen)
-}
-
-fn push_seen(seen: &mut Vec<Asked>, caller: u32, entry: &Entry) -> Result<(), AllocError>
-    ensures { OnOk result (seen.new.items ≡ seen.old.items ++ seen_by caller entry.now) }
-{
-    if let Entry::Call(made) = entry {
-        if made.who.caller == caller {
-            seen.push(Asked {
-                command: made.who.command,
-                hop: u64::from(made.who.hop),
-                op: made.op,
-                reply: made.reply,
-            })?;
-        }
+    if call.who.caller == caller {
+        seen.push(Asked {
+            command: call.who.command,
+            phase,
+            hop: u64::from(call.who.hop),
+            op: call.op,
+            reply: call.reply,
+        })?;
     }
     Ok(())
 }
 
-/// Whether a caller's calls with the replies to each stand in the journals, and nothing else of it does.
-pub fn are_calls(
-    alloc: Global,
-    pools: u32,
+// What an entry in this phase shows of the caller. The phase of the next one.
+fn push_entry(
+    seen: &mut Vec<Asked>,
     caller: u32,
-    answered: &[Answered],
-    journals: &[Journal],
-) -> Result<bool, AllocError>
-    ensures { IfOk result (λ are. IsTrue are ↔ AreCalls pools caller (answers_in answered.now) (entries_of journals.now)) }
+    phase: u32,
+    entry: &Entry,
+) -> Result<u32, AllocError>
+    ensures { IfOk result (λ next. (rest : List Entry) →
+        seen.old.items ++ seen_from caller phase (entry.now ∷ rest)
+        ≡ seen.new.items ++ seen_from caller next rest) }
 {
-    if !are_answered(pools, answered) {
-        return Ok(false);
-    }
-    for pool in 0..pools {
-        if !stand_in(alloc, pools, caller, pool, answered, journals)? {
-            return Ok(false);
+    match entry {
+        Entry::Call(call) => {
+            push_seen(seen, caller, phase, call)?;
+            Ok(phase)
         }
+        Entry::Phase(number) => Ok(*number),
     }
-    Ok(true)
 }
 
-// Whether each call may have had its replies.
-fn are_answered(pools: u32, answered: &[Answered]) -> bool
-    ensures { IsTrue result ↔ AllByRecursion (λ a. IsAnswered pools (a.0).op a.1) (answers_in answered.now) }
+// What a journal shows of the caller.
+fn seen_in(alloc: Global, caller: u32, journal: &Journal) -> Result<Vec<Asked>, AllocError>
+    ensures { IfOk result (λ seen. seen.items ≡ seen_in caller journal.now.items) }
 {
-    for one in answered {
-        if !is_answered(pools, one.call.op, &one.replies) {
-            return false;
-        }
+    let mut seen = Vec::new(alloc);
+    let mut phase = 0;
+    for i in 0..journal.len() {
+        phase = push_entry(&mut seen, caller, phase, journal.entry(i))?;
     }
-    true
-}
-
-// Whether the pool's journal shows the calls of the caller, and nothing else of it.
-fn stand_in(
-    alloc: Global,
-    pools: u32,
-    caller: u32,
-    pool: u32,
-    answered: &[Answered],
-    journals: &[Journal],
-) -> Result<bool, AllocError>
-    requires { 1 ≤ pools }
-    ensures { IfOk result (λ stand. IsTrue stand ↔ (flat_map (seen_by caller) (slice_index_or (entries_of journals.now) pool []) ≡ flat_map (asked_by pools caller pool) (answers_in answered.now))) }
-{
-    let seen = seen_at(alloc, caller, pool, journals)?;
-    let asked = asked_in(alloc, pools, caller, pool, answered)?;
-    Ok(show_same(&seen, &asked))
+    Ok(seen)
 }
 
 // What a pool's journal shows of the caller; a pool without a journal shows nothing.
@@ -176,7 +167,8 @@ fn seen_at(
     pool: u32,
     journals: &[Journal],
 ) -> Result<Vec<Asked>, AllocError>
-    ensures { IfOk result (λ seen. seen.items ≡ flat_map (seen_by caller) (slice_index_or (entries_of journals.now) pool [])) }
+    ensures { IfOk result (λ seen. seen.items ≡
+        seen_in caller (slice_index_or (entries_of journals.now) pool [])) }
 {
     match journals.get(pool as usize) {
         Some(journal) => seen_in(alloc, caller, journal),
@@ -190,144 +182,53 @@ fn show_same(seen: &[Asked], asked: &[Asked]) -> bool
     seen == asked
 }
 
-// Whether a script with so many variables has run with these calls and the replies to each.
-fn is_run_with(
+// Whether the pool's journal shows the calls of the caller, and nothing else of it.
+fn stand_in(
     alloc: Global,
     pools: u32,
     caller: u32,
-    variables: u32,
-    commands: &[Command],
+    pool: u32,
     answered: &[Answered],
     journals: &[Journal],
-    outcomes: &[Outcome],
 ) -> Result<bool, AllocError>
-    requires { length commands.now < 2 ^ 32 - 1 }
-    ensures { IfOk result (λ is. IsTrue is ↔ IsRunWith pools caller variables commands.now (answers_in answered.now) (entries_of journals.now) outcomes.now) }
-{
-    let calls = calls_of(alloc, answered)?;
-    let replies = last_replies(alloc, answered)?;
-    let ran = script_run(alloc, variables, commands, &replies)?;
-    let stand = are_calls(alloc, pools, caller, answered, journals)?;
-    Ok(has_run(&ran, &calls, outcomes) && is_ended(commands, outcomes) && stand)
-}
-
-fn calls_of(alloc: Global, answered: &[Answered]) -> Result<Vec<Call>, AllocError>
-    ensures { IfOk result (λ calls. calls.items ≡ map (λ a. a.0) (answers_in answered.now)) }
-{
-    let mut calls = Vec::new(alloc);
-    for one in answered {
-        calls.push(one.call)?;
-    }
-    Ok(calls)
-}
-
-fn last_replies(alloc: Global, answered: &[Answered]) -> Result<Vec<Reply>, AllocError>
-    ensures { IfOk result (λ replies. replies.items ≡ map (λ a. last_of a.1) (answers_in answered.now)) }
-{
-    let mut replies = Vec::new(alloc);
-    for one in answered {
-        replies.push(last_reply(&one.replies))?;
-    }
-    Ok(replies)
-}
-
-// The last reply to a call.
-fn last_reply(replies: &[Reply]) -> Reply
-    ensures { result ≡ last_of replies.now }
-{
-    match replies.last() {
-        Some(reply) => *reply,
-        None => Reply::Miss,
-    }
-}
-
-fn has_run(ran: &Ran, calls: &[Call], outcomes: &[Outcome]) -> bool
-    ensures { IsTrue result ↔ (ran_in ran.now ≡ record { calls = calls.now; outcomes = outcomes.now }) }
-{
-    are_same_calls(&ran.calls, calls) && are_same_outcomes(&ran.outcomes, outcomes)
-}
-
-fn are_same_calls(calls: &[Call], others: &[Call]) -> bool
-    ensures { IsTrue result ↔ (calls.now ≡ others.now) }
-{
-    calls == others
-}
-
-fn are_same_outcomes(outcomes: &[Outcome], others: &[Outcome]) -> bool
-    ensures { IsTrue result ↔ (outcomes.now ≡ others.now) }
-{
-    outcomes == others
-}
-
-// Whether each command has its outcome, or the run ended at a fault.
-fn is_ended(commands: &[Command], outcomes: &[Outcome]) -> bool
-    ensures { IsTrue result ↔ IsEnded commands.now outcomes.now }
-{
-    outcomes.len() == commands.len() || has_fault(outcomes)
-}
-
-fn has_fault(outcomes: &[Outcome]) -> bool
-    ensures { result ≡ list_any is_fault_outcome outcomes.now }
-{
-    outcomes.iter().any(|outcome| is_fault(*outcome))
-}
-
-/// Whether a script with so many variables ran as the journals and its transcript tell. There must be a
-/// pool: the calls and the replies to them are read from the pools' journals.
-pub fn is_script_run(
-    alloc: Global,
-    pools: u32,
-    caller: u32,
-    variables: u32,
-    commands: &[Command],
-    journals: &[Journal],
-    outcomes: &[Outcome],
-) -> Result<bool, AllocError>
-    requires commands { length commands.now < 2 ^ 32 - 1 }
-    requires pools { 1 ≤ pools }
-    ensures { IfOk result (λ is. IsTrue is ↔ IsScriptRun pools caller variables commands.now (entries_of journals.now) outcomes.now) }
-{
-    let read = calls_read(alloc, pools, caller, journals)?;
-    is_run_with(
-        alloc, pools, caller, variables, commands, &read, journals, outcomes,
-    )
-}
-
-// The calls of a caller that the journals show, with the replies to the command of each.
-fn calls_read(
-    alloc: Global,
-    pools: u32,
-    caller: u32,
-    journals: &[Journal],
-) -> Result<Vec<Answered>, AllocError>
     requires { 1 ≤ pools }
-    ensures { IfOk result (λ read. answers_in read.items ≡ calls_shown pools caller (seen_by_pool caller (entries_of journals.now))) }
+    ensures { IfOk result (λ stand. IsTrue stand ↔
+        (seen_in caller (slice_index_or (entries_of journals.now) pool [])
+        ≡ flat_map (asked_in pools caller pool) (answers_in answered.now))) }
 {
-    let calls = calls_begun(alloc, pools, caller, journals)?;
-    let mut read = Vec::new(alloc);
-    for call in &calls {
-        let replies = replies_to(alloc, pools, caller, call.command, journals)?;
-        read.push(Answered {
-            call: *call,
-            replies,
-        })?;
+    let seen = seen_at(alloc, caller, pool, journals)?;
+    let asked = asked_in(alloc, pools, caller, pool, answered)?;
+    Ok(show_same(&seen, &asked))
+}
+
+/// Whether a caller's calls with the replies to each stand in the journals, and nothing else of it does.
+pub fn are_calls(
+    alloc: Global,
+    pools: u32,
+    caller: u32,
+    answered: &[Answered],
+    journals: &[Journal],
+) -> Result<bool, AllocError>
+    ensures { IfOk result (λ are. IsTrue are ↔
+        AreCalls pools caller (answers_in answered.now) (entries_of journals.now)) }
+{
+    if !are_answered(pools, answered) {
+        return Ok(false);
     }
-    Ok(read)
+    for pool in 0..pools {
+        if !stand_in(alloc, pools, caller, pool, answered, journals)? {
+            return Ok(false);
+        }
+    }
+    Ok(true)
 }
 
 // The calls begin in the caller's own pool.
-fn calls_begun(
-    alloc: Global,
-    pools: u32,
-    caller: u32,
-    journals: &[Journal],
-) -> Result<Vec<Call>, AllocError>
-    requires { 1 ≤ pools }
-    ensures { IfOk result (λ calls. calls.items ≡ flat_map begun_by (seen_by_pool caller (entries_of journals.now) (caller % pools))) }
+fn calls_begun(alloc: Global, seen: &[Asked]) -> Result<Vec<Call>, AllocError>
+    ensures { IfOk result (λ calls. calls.items ≡ flat_map begun_by seen.now) }
 {
-    let seen = seen_at(alloc, caller, caller % pools, journals)?;
     let mut calls = Vec::new(alloc);
-    for asked in &seen {
+    for asked in seen {
         push_begun(&mut calls, asked)?;
     }
     Ok(calls)
@@ -339,38 +240,11 @@ fn push_begun(calls: &mut Vec<Call>, asked: &Asked) -> Result<(), AllocError>
     if asked.hop == 0 {
         calls.push(Call {
             command: asked.command,
+            phase: asked.phase,
             op: asked.op,
         })?;
     }
     Ok(())
-}
-
-// The replies to the command, pool by pool from that of the caller on.
-fn replies_to(
-    alloc: Global,
-    pools: u32,
-    caller: u32,
-    command: u32,
-    journals: &[Journal],
-) -> Result<Vec<Reply>, AllocError>
-    requires { 1 ≤ pools }
-    ensures { IfOk result (λ replies. replies.items ≡ replies_in pools caller (seen_by_pool caller (entries_of journals.now)) command) }
-{
-    let mut replies = Vec::new(alloc);
-    for hop in 0..pools {
-        let pool = pool_after(pools, caller, hop);
-        let seen = seen_at(alloc, caller, pool, journals)?;
-        push_replies(&mut replies, command, u64::from(hop), &seen)?;
-    }
-    Ok(replies)
-}
-
-// The pool that is asked after so many others.
-fn pool_after(pools: u32, caller: u32, hop: u32) -> u32
-    requires { 1 ≤ pools }
-    ensures { result ≡ (caller + hop) % pools }
-{
-    ((u64::from(caller) + u64::from(hop)) % u64::from(pools)) as u32
 }
 
 fn push_replies(
@@ -379,7 +253,8 @@ fn push_replies(
     hop: u64,
     seen: &[Asked],
 ) -> Result<(), AllocError>
-    ensures { OnOk result (replies.new.items ≡ replies.old.items ++ flat_map (reply_to command hop) seen.now) }
+    ensures { OnOk result (replies.new.items ≡ replies.old.items ++
+        flat_map (reply_to command hop) seen.now) }
 {
     for asked in seen {
         push_reply(replies, command, hop, asked)?;
@@ -393,7 +268,8 @@ fn push_reply(
     hop: u64,
     asked: &Asked,
 ) -> Result<(), AllocError>
-    ensures { OnOk result (replies.new.items ≡ replies.old.items ++ reply_to command hop asked.now) }
+    ensures { OnOk result (replies.new.items ≡ replies.old.items ++
+        reply_to command hop asked.now) }
 {
     if asked.hop == hop && asked.command == command {
         replies.push(asked.reply)?;
@@ -401,18 +277,69 @@ fn push_reply(
     Ok(())
 }
 
-/// Whether no entry has another caller than the scripts, and the journal enters the phases of the run.
-pub fn only_callers(
-    alloc: Global,
-    scripts: u32,
-    phases: u32,
-    journal: &Journal,
-) -> Result<bool, AllocError>
-    ensures { IfOk result (λ only. IsTrue only ↔ OnlyCallers scripts phases journal.now.items) }
+// The pool that is asked after so many others.
+fn pool_after(pools: u32, caller: u32, hop: u32) -> u32
+    requires { 1 ≤ pools }
+    ensures { result ≡ (caller + hop) % pools }
 {
-    let entered = phases_of(alloc, journal)?;
-    let counted = counted(alloc, u64::from(phases.saturating_sub(1)))?;
-    Ok(are_same(&entered, &counted) && are_below(scripts, journal))
+    ((u64::from(caller) + u64::from(hop)) % u64::from(pools)) as u32
+}
+
+// The replies to the command, pool by pool from that of the caller on.
+fn replies_to(
+    alloc: Global,
+    pools: u32,
+    caller: u32,
+    command: u32,
+    journals: &[Journal],
+) -> Result<Vec<Reply>, AllocError>
+    requires { 1 ≤ pools }
+    ensures { IfOk result (λ replies. replies.items ≡
+        replies_to pools caller (seen_at caller (entries_of journals.now)) command) }
+{
+    let mut replies = Vec::new(alloc);
+    for hop in 0..pools {
+        let pool = pool_after(pools, caller, hop);
+        let seen = seen_at(alloc, caller, pool, journals)?;
+        push_replies(&mut replies, command, u64::from(hop), &seen)?;
+    }
+    Ok(replies)
+}
+
+/// The calls of a caller with the replies to each, as the journals show them. If any calls with ascending
+/// commands stand in the journals, they are these.
+pub fn calls_read(
+    alloc: Global,
+    pools: u32,
+    caller: u32,
+    journals: &[Journal],
+) -> Result<Vec<Answered>, AllocError>
+    requires { 1 ≤ pools }
+    ensures { IfOk result (λ read. (answered : List (Call × List Reply))
+        → EachPair (λ a b. a.command < b.command) (map (λ a. a.0) answered)
+        → AreCalls pools caller answered (entries_of journals.now)
+        → answered ≡ answers_in read.items) }
+{
+    let seen = seen_at(alloc, caller, caller % pools, journals)?;
+    let calls = calls_begun(alloc, &seen)?;
+    let mut read = Vec::new(alloc);
+    for call in &calls {
+        let replies = replies_to(alloc, pools, caller, call.command, journals)?;
+        read.push(Answered {
+            call: *call,
+            replies,
+        })?;
+    }
+    Ok(read)
+}
+
+fn is_below(callers: u32, entry: &Entry) -> bool
+    ensures { IsTrue result ↔ CallerBelow callers entry.now }
+{
+    match entry {
+        Entry::Call(made) => made.who.caller < callers,
+        Entry::Phase(_) => true,
+    }
 }
 
 // Whether no entry has another caller than so many.
@@ -427,13 +354,18 @@ fn are_below(callers: u32, journal: &Journal) -> bool
     true
 }
 
-fn is_below(callers: u32, entry: &Entry) -> bool
-    ensures { IsTrue result ↔ CallerBelow callers entry.now }
+/// Whether no entry has another caller than the scripts, and the journal enters the phases of the run.
+pub fn only_callers(
+    alloc: Global,
+    scripts: u32,
+    phases: u32,
+    journal: &Journal,
+) -> Result<bool, AllocError>
+    ensures { IfOk result (λ only. IsTrue only ↔ OnlyCallers scripts phases journal.now.items) }
 {
-    match entry {
-        Entry::Call(made) => made.who.caller < callers,
-        Entry::Phase(_) => true,
-    }
+    let entered = phase_numbers(alloc, journal)?;
+    let counted = counted(alloc, u64::from(phases.saturating_sub(1)))?;
+    Ok(are_counted(&entered, &counted) && are_below(scripts, journal))
 }
 
 #[cfg(test)]

@@ -1,20 +1,22 @@
 //! Looks: what a claim says of the zones that it passed over, and the versions that a journal names.
-ghost use Rattle.std.specs.Prelude.{◌≡◌, ◌↔◌, IsTrue, IfOk, OnOk, ◌++◌, map};
+ghost use Rattle.std.specs.Prelude.{◌≡◌, ◌↔◌, IsTrue, IsSomeAnd, IfOk, OnOk, ◌++◌, map};
 ghost use Rattle.std.specs.List.{AllByRecursion, flat_map};
 ghost use Rattle.std.specs.Option.{option_to_list};
-ghost use Rattle.om_model.specs.Looks.{IsTrueLook, sought as sought_by, HasTrueLooks, named_by_look as look_named, named_by_move as move_named, named_in as named_by, ComesAfter, Rises, AreLooks};
+ghost use Rattle.om_model.specs.Zones.Looks.{IsTrueLook, HasTrueLooks, named_by_look, named_by_move, named_in, ComesAfter, Rises, AreLooks};
+ghost use Rattle.om_model.specs.Output.Head.{rules_of};
 ghost use Rattle.om_model.specs.declared.entry.Entry.TheVariants.{Call};
 
-use super::moves::{fit_at, last_version, searched_by};
+use super::moves::{pages_sought, search_word};
+use super::order::{fit_at, last_version};
+use crate::content::Head;
 use crate::entry::{CallEntry, Entry, Move, ZoneMove};
 use crate::journal::Journal;
 use crate::looks::{Look, Named};
-use crate::operation::Op;
 use std::alloc::{AllocError, Global};
 
 /// Whether the zone has had the version of the look, and so many pages didn't fit there then, searched
 /// by the word.
-pub fn is_true_look(moves: &[ZoneMove], count: u32, word: u32, look: Look) -> bool
+pub fn is_true_look(moves: &[ZoneMove], count: u64, word: u32, look: Look) -> bool
     ensures { IsTrue result ↔ IsTrueLook moves.now count word look }
 {
     let version = u64::from(look.version);
@@ -22,31 +24,34 @@ pub fn is_true_look(moves: &[ZoneMove], count: u32, word: u32, look: Look) -> bo
         && fit_at(moves, look.zone, version, count, word).is_none()
 }
 
-// The number of pages that a call seeks: one, for chunks.
-fn sought(_op: Op) -> u32
-    ensures { result ≡ sought_by _op }
+// Whether each of the looks, by the word that was searched by, is true.
+fn are_true_looks(moves: &[ZoneMove], count: u64, word: Option<u32>, looks: &[Look]) -> bool
+    ensures { IsTrue result ↔ AllByRecursion
+        (λ look. IsSomeAnd word (λ w. IsTrueLook moves.now count w look)) looks.now }
 {
-    1
+    let Some((look, others)) = looks.split_first() else {
+        return true;
+    };
+    word.is_some_and(|word| is_true_look(moves, count, word, *look))
+        && are_true_looks(moves, count, word, others)
 }
 
-// Whether each look at a zone that the call's claim passed over is true.
-fn has_true_looks(moves: &[ZoneMove], call: &CallEntry) -> bool
-    ensures { IsTrue result ↔ HasTrueLooks moves.now (Call call.now) }
+// Whether each look at a zone that the search of the pool's call passed over is true.
+fn has_true_looks(head: &Head, pool: u32, moves: &[ZoneMove], call: &CallEntry) -> bool
+    ensures { IsTrue result ↔ HasTrueLooks (rules_of head.now pool) moves.now (Call call.now) }
 {
-    for look in call.looks.as_slice() {
-        if !is_true_look(moves, sought(call.op), searched_by(call), *look) {
-            return false;
-        }
-    }
-    true
+    let word = search_word(head, pool, call);
+    let count = pages_sought(head, pool, call.op);
+    are_true_looks(moves, count, word, call.looks.as_slice())
 }
 
-fn are_true(moves: &[ZoneMove], journal: &Journal) -> bool
-    ensures { IsTrue result ↔ AllByRecursion (HasTrueLooks moves.now) journal.now.items }
+fn are_true(head: &Head, pool: u32, moves: &[ZoneMove], journal: &Journal) -> bool
+    ensures { IsTrue result ↔
+        AllByRecursion (HasTrueLooks (rules_of head.now pool) moves.now) journal.now.items }
 {
     for i in 0..journal.len() {
         if let Entry::Call(call) = journal.entry(i) {
-            if !has_true_looks(moves, call) {
+            if !has_true_looks(head, pool, moves, call) {
                 return false;
             }
         }
@@ -55,7 +60,7 @@ fn are_true(moves: &[ZoneMove], journal: &Journal) -> bool
 }
 
 fn named_by_look(look: Look) -> Named
-    ensures { result ≡ look_named look }
+    ensures { result ≡ named_by_look look }
 {
     Named {
         zone: look.zone,
@@ -65,7 +70,7 @@ fn named_by_look(look: Look) -> Named
 }
 
 fn named_by_move(made: Move) -> Named
-    ensures { result ≡ move_named made }
+    ensures { result ≡ named_by_move made }
 {
     Named {
         zone: made.zone,
@@ -75,7 +80,7 @@ fn named_by_move(made: Move) -> Named
 }
 
 fn push_taken(named: &mut Vec<Named>, taken: Option<Look>) -> Result<(), AllocError>
-    ensures { OnOk result (named.new.items ≡ named.old.items ++ map look_named (option_to_list taken)) }
+    ensures { OnOk result (named.new.items ≡ named.old.items ++ map named_by_look (option_to_list taken)) }
 {
     if let Some(look) = taken {
         named.push(named_by_look(look))?;
@@ -84,7 +89,7 @@ fn push_taken(named: &mut Vec<Named>, taken: Option<Look>) -> Result<(), AllocEr
 }
 
 fn push_looks(named: &mut Vec<Named>, looks: &[Look]) -> Result<(), AllocError>
-    ensures { OnOk result (named.new.items ≡ named.old.items ++ map look_named looks.now) }
+    ensures { OnOk result (named.new.items ≡ named.old.items ++ map named_by_look looks.now) }
 {
     for look in looks {
         named.push(named_by_look(*look))?;
@@ -93,7 +98,7 @@ fn push_looks(named: &mut Vec<Named>, looks: &[Look]) -> Result<(), AllocError>
 }
 
 fn push_move(named: &mut Vec<Named>, made: Option<Move>) -> Result<(), AllocError>
-    ensures { OnOk result (named.new.items ≡ named.old.items ++ map move_named (option_to_list made)) }
+    ensures { OnOk result (named.new.items ≡ named.old.items ++ map named_by_move (option_to_list made)) }
 {
     if let Some(made) = made {
         named.push(named_by_move(made))?;
@@ -102,7 +107,7 @@ fn push_move(named: &mut Vec<Named>, made: Option<Move>) -> Result<(), AllocErro
 }
 
 fn push_named(named: &mut Vec<Named>, call: &CallEntry) -> Result<(), AllocError>
-    ensures { OnOk result (named.new.items ≡ named.old.items ++ named_by (Call call.now)) }
+    ensures { OnOk result (named.new.items ≡ named.old.items ++ named_in (Call call.now)) }
 {
     push_taken(named, call.taken)?;
     push_looks(named, call.looks.as_slice())?;
@@ -113,7 +118,7 @@ fn push_named(named: &mut Vec<Named>, call: &CallEntry) -> Result<(), AllocError
 
 // What the journal names, in the order in which it came about.
 fn named_in(alloc: Global, journal: &Journal) -> Result<Vec<Named>, AllocError>
-    ensures { IfOk result (λ named. named.items ≡ flat_map named_by journal.now.items) }
+    ensures { IfOk result (λ named. named.items ≡ flat_map named_in journal.now.items) }
 {
     let mut named = Vec::new(alloc);
     for i in 0..journal.len() {
@@ -158,11 +163,18 @@ fn rises(named: &[Named]) -> bool
     all_come_after(*earlier, later) && rises(later)
 }
 
-/// Whether the looks of a journal are true and the versions that it names rise, where the moves are those
-/// of all journals.
-pub fn are_looks(alloc: Global, moves: &[ZoneMove], journal: &Journal) -> Result<bool, AllocError>
-    ensures { IfOk result (λ are. IsTrue are ↔ AreLooks moves.now journal.now.items) }
+/// Whether the looks of the pool's journal are true and the versions that it names rise, where the moves are
+/// those of all journals.
+pub fn are_looks(
+    alloc: Global,
+    head: &Head,
+    pool: u32,
+    moves: &[ZoneMove],
+    journal: &Journal,
+) -> Result<bool, AllocError>
+    ensures { IfOk result (λ are. IsTrue are ↔
+        AreLooks (rules_of head.now pool) moves.now journal.now.items) }
 {
     let named = named_in(alloc, journal)?;
-    Ok(are_true(moves, journal) && rises(&named))
+    Ok(are_true(head, pool, moves, journal) && rises(&named))
 }

@@ -2,12 +2,14 @@
 ghost use Rattle.omalloc.specs.Heads.{IsHead};
 ghost use Rattle.omalloc.specs.Script.{IsScript};
 
-use super::{answer_of, words_of};
+use super::script_run::is_script_run;
+use super::{answer_of, arguments_of};
+use crate::arguments::read_arguments;
 use crate::read::read;
-use crate::run::{Run, run_script};
+use crate::run::{Ran, run_script};
 use crate::script::Script;
 use crate::status::Status;
-use crate::words::read_words;
+use om_io::INPUT_LIMIT;
 use om_model::{Head, Journal, Outcome, Told, Transcript, slow};
 use om_words::Words;
 use std::alloc::{AllocError, Global};
@@ -17,8 +19,8 @@ use std::sync::Wait;
 use std::test::Fail;
 use std::thread::Threads;
 
-// Commands over four names, chosen by the words of a seed. A block that is freed is mostly followed by
-// another, and else by a second free some time.
+// Commands over four names, chosen by the words of a seed. A block that is freed is mostly followed
+// by another, and else by a second free some time.
 fn script_text(rt: &impl Abort, alloc: Global, seed: u64, steps: u32) -> Result<String, Fail> {
     let mut choices = Words::seeded(seed, 1);
     let mut text = String::from_str(alloc, "script plain\n")?;
@@ -45,7 +47,8 @@ fn outcomes_of(alloc: Global, transcript: &Transcript) -> Result<Vec<Outcome>, A
     Ok(outcomes)
 }
 
-// The outcomes are those of a run of the script with this journal, and without the last one they aren't.
+// The outcomes are those of a run of the script with this journal, and without the last one they
+// aren't.
 fn judge_script(
     rt: &impl Abort,
     alloc: Global,
@@ -55,52 +58,47 @@ fn judge_script(
 ) -> Result<(), Fail>
     requires { IsScript script.now }
 {
-    let variables = script.variables() as u32;
-    let commands = script.commands();
-    let journals = slice::from_ref(journal);
     let mut outcomes = outcomes_of(alloc, transcript)?;
-    let ran = slow::is_script_run(alloc, 1, 0, variables, commands, journals, &outcomes)?;
-    assert!(rt; ran);
+    assert!(rt; is_script_run(alloc, script, journal, &outcomes)?);
     assert!(rt; slow::only_callers(alloc, 1, 1, journal)?);
     assert!(rt; outcomes.pop().is_some());
-    let ran = slow::is_script_run(alloc, 1, 0, variables, commands, journals, &outcomes)?;
-    assert!(rt; !ran);
+    assert!(rt; !is_script_run(alloc, script, journal, &outcomes)?);
     Ok(())
 }
 
-// The journal is a run of one pool under the head: lawful to its end, with its moves in order and true looks.
+// The journal is a run of one pool under the head: lawful to its end, which leaves a well-formed state, with
+// its moves in order and true looks.
 fn judge_pool(rt: &impl Abort, alloc: Global, head: &Head, journal: &Journal) -> Result<(), Fail>
     requires { IsHead head.now }
 {
-    let words = head.plan.words(alloc, 0)?;
-    assert!(rt; slow::is_lawful(alloc, head.opts, head.zones, 0, words, journal)?);
-    let words = head.plan.words(alloc, 0)?;
-    let mut state = slow::State::opening(alloc, head.opts, head.zones, 0, words);
-    assert!(rt; state.follow_all(journal)?);
-    assert!(rt; state.is_well_formed()?);
-    let moves = slow::moves_of(alloc, slice::from_ref(journal))?;
+    assert!(rt; slow::is_lawful(alloc, head, 0, journal)?);
+    match slow::State::opening(alloc).follow_all(head, 0, journal)? {
+        Some(state) => assert!(rt; state.is_well_formed(head, 0)?),
+        None => assert!(rt; false),
+    }
+    let moves = slow::moves_of(alloc, head, slice::from_ref(journal))?;
     assert!(rt; slow::is_zone_order(&moves));
-    assert!(rt; slow::are_looks(alloc, &moves, journal)?);
+    assert!(rt; slow::are_looks(alloc, head, 0, &moves, journal)?);
     Ok(())
 }
 
-// The output for the words of a line and a text, by the plain forms.
+// The output for the arguments of a line and a text, by the plain forms.
 fn plain_output<R: Abort + Threads + Wait + Sync>(
     rt: &R,
     alloc: Global,
     line: &str,
     text: &str,
 ) -> Result<Vec<u8>, Fail> {
-    assert!(rt; text.len() <= 16_777_216);
-    let words = words_of(alloc, line)?;
-    let head = read_words(alloc, &words)?;
+    assert!(rt; text.len() <= INPUT_LIMIT);
+    let arguments = arguments_of(alloc, line)?;
+    let head = read_arguments(alloc, &arguments)?;
     let script = read(alloc, text.as_bytes())?;
-    let run = run_script(rt, alloc, &head, &script)?;
-    let Run {
+    let ran = run_script(rt, alloc, &head, &script)?;
+    let Ran {
         pool,
         transcript,
         ..
-    } = run;
+    } = ran;
     judge_script(rt, alloc, &script, pool.journal(), &transcript)?;
     judge_pool(rt, alloc, &head, pool.journal())?;
     let told = Told {

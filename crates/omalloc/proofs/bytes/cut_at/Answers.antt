@@ -1,5 +1,5 @@
 use Rattle.std.proofs.Common.{◌∙◌, sym}
-use Rattle.omalloc.proofs.TextCuts.{part_found, part_whole}
+use Rattle.omalloc.proofs.Cuts.{part_found, part_whole}
 use Rattle.omalloc.proofs.bytes.cut_at.Goals as goal
 
 pub returns-in-None-clause-parts : goal.returns-in-None-clause-parts

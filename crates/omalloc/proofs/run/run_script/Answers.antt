@@ -1,9 +1,9 @@
 use Rattle.std.proofs.Common.{◌≡◌, ◌+◌, length, false, true, arith, replicate, sym, ap, ◌∙◌, inl}
 use Rattle.std.specs.List.{list_any}
-use Rattle.om_model.specs.ScriptRun.{is_fault}
-use Rattle.om_model.specs.declared.command.Command.{Command}
-use Rattle.om_model.specs.declared.command.Command.TheVariants.{Malloc}
-use Rattle.omalloc.proofs.RunLaws.{IsPart-at, IsPart-next, IsPart-stop, IsPart-over, IsPart-end, IsPart-pushed, IsEnded-pushed, IsPart-script, fault_more, faulted_last, length_more, lone_head}
+use Rattle.om_model.specs.Scripts.Outcomes.{is_fault}
+use Rattle.omalloc.specs.declared.command.Command.{Command}
+use Rattle.omalloc.specs.declared.command.Command.TheVariants.{Malloc}
+use Rattle.omalloc.proofs.ScriptRun.{IsPart-at, IsPart-next, IsPart-stop, IsPart-over, IsPart-end, IsPart-pushed, IsEnded-pushed, IsPart-script, fault_more, faulted_last, length_more, rules_by_head}
 use Rattle.omalloc.proofs.run.run_script.Goals as goal
 
 pub loop-i-init : goal.loop-i-init
@@ -12,8 +12,7 @@ loop-i-init g c =
     c.in_ok-values.ensures.items_if_clones_equal (λ y h. h) ∙ ap (λ n. replicate n 0) c.variables.ensures in
     record {
       items = c.commands-command-items.ensures;
-      rules = c.in_ok-pool.ensures.rules ∙ lone_head c.head.inside.opts c.head.inside.zones c.head.inside.plan c.head.inside.warned.items c.args.head.now c.in_ok-words.words c.head.view_is c.requires.head.zones c.in_ok-words.ensures;
-      run = c.in_ok-pool.ensures.run;
+      rules = c.in_ok-pool.ensures.rules ∙ rules_by_head c.head.inside.opts c.head.inside.zones c.head.inside.plan c.head.inside.warned.items c.args.head.now c.in_ok-words.words c.head.view_is c.requires.head.zones c.in_ok-words.ensures;
       variables = c.in_ok-values.ensures.len ∙ c.variables.ensures;
       outcomes = ap length c.new-transcript.ensures;
       entries = omega (arith, ap length c.in_ok-pool.ensures.entries);
@@ -38,7 +37,6 @@ returns-then-is_fault g c =
         script_run = IsPart-end _ _ _ _ (IsEnded-pushed c.args.script.now.commands _ _ pushed (faulted_last c.args.script.now.commands outcomes o fault)) (IsPart-pushed _ _ _ _ _ pushed stop);
         only = stop.only;
       };
-      run = c.in_ok-outcome.ensures.run c.loop-i.invariant.run;
       faulted = sym (ap (list_any is_fault) pushed ∙ fault_more outcomes o true c.loop-i.invariant.fine fault);
     }
 
@@ -56,7 +54,6 @@ loop-i-preserved g c =
     record {
       items = c.loop-i.invariant.items;
       rules = c.in_ok-outcome.ensures.rules ∙ c.loop-i.invariant.rules;
-      run = c.in_ok-outcome.ensures.run c.loop-i.invariant.run;
       variables = c.in_ok-outcome.ensures.variables ∙ c.loop-i.invariant.variables;
       outcomes = ap length pushed ∙ length_more outcomes o ∙ ap (λ n. n + 1) c.loop-i.invariant.outcomes;
       entries = omega (arith, c.in_ok-outcome.ensures.entries, c.loop-i.invariant.entries);
@@ -74,6 +71,5 @@ returns g c =
         script_run = IsPart-end _ _ _ _ (inl (omega (arith, c.loop-i.invariant.outcomes, c.loop-i-test.false, c.loop-i.auto.i-end, ap length c.commands-command-items.ensures))) over;
         only = over.only;
       };
-      run = c.loop-i.invariant.run;
       faulted = sym c.loop-i.invariant.fine;
     }

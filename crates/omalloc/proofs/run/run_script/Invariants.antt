@@ -1,16 +1,15 @@
 use Rattle.std.proofs.Common.{◌≡◌, ◌+◌, ◌≤◌, length, vec_len, drop, replicate, false}
 use Rattle.std.specs.List.{list_any}
-use Rattle.om_model.specs.ScriptRun.{run_from, is_fault}
-use Rattle.om_model.specs.OutputText.{rules_of}
-use Rattle.om_pool.specs.PoolView.{IsRun}
-use Rattle.omalloc.proofs.RunLaws.{IsPart}
+use Rattle.om_model.specs.Output.Head.{rules_of}
+use Rattle.om_model.specs.Scripts.Outcomes.{is_fault}
+use Rattle.omalloc.specs.ScriptRun.{run_from}
+use Rattle.omalloc.proofs.ScriptRun.{IsPart}
 use Rattle.omalloc.proofs.run.run_script.Given as goal
 
 abbrev pub invariant-loop-i : goal.invariant-loop-i
 invariant-loop-i g l = record {
   items : l.command-items ≡ l.script.commands;
   rules : l.pool.rules ≡ rules_of l.head 0;
-  run : IsRun l.pool;
   variables : vec_len l.values ≡ length l.script.names;
   outcomes : length l.transcript ≡ l.i;
   entries : length l.pool.journal.items ≤ l.i;

@@ -1,5 +1,5 @@
 use Rattle.std.proofs.Common.{◌∙◌, ap, length, unwrap_or, bytes_eq}
-use Rattle.omalloc.proofs.TextNames.{place_in_map}
+use Rattle.omalloc.proofs.Names.{place_in_map}
 use Rattle.omalloc.proofs.script.place_of.Goals as goal
 
 pub returns-clause-place : goal.returns-clause-place

@@ -1,7 +1,7 @@
 use Rattle.std.proofs.Common.{◌<◌, length, sym, subst, arith}
-use Rattle.om_model.specs.ScriptCalls.{IsAnswered}
-use Rattle.om_model.specs.SlowCalls.{answered_in}
-use Rattle.om_model.proofs.AnsweredCalls.{all-mapped}
+use Rattle.om_model.specs.Scripts.Calls.{IsAnswered}
+use Rattle.om_model.specs.Slow.{answered_in}
+use Rattle.om_model.proofs.PlainCalls.{all-mapped}
 use Rattle.om_model.proofs.slow.calls.are_answered.Goals as goal
 
 pub returns-then-not-is_answered : goal.returns-then-not-is_answered

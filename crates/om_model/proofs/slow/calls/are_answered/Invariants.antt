@@ -1,7 +1,7 @@
 use Rattle.std.proofs.Common.{take}
 use Rattle.std.specs.List.{AllByRecursion}
-use Rattle.om_model.specs.ScriptCalls.{IsAnswered}
-use Rattle.om_model.specs.SlowCalls.{answers_in}
+use Rattle.om_model.specs.Scripts.Calls.{IsAnswered}
+use Rattle.om_model.specs.Slow.{answers_in}
 use Rattle.om_model.proofs.slow.calls.are_answered.Given as goal
 
 abbrev pub invariant-loop-one : goal.invariant-loop-one

@@ -1,6 +1,6 @@
 use Rattle.std.proofs.Common.{take}
 use Rattle.std.specs.List.{AllByRecursion}
-use Rattle.om_model.specs.ScriptCalls.{CallerBelow}
+use Rattle.om_model.specs.Scripts.Calls.{CallerBelow}
 use Rattle.om_model.proofs.slow.calls.are_below.Given as goal
 
 abbrev pub invariant-loop-i : goal.invariant-loop-i

@@ -1,7 +1,7 @@
 use Rattle.std.proofs.Common.{◌≡◌, take}
 use Rattle.std.specs.List.{flat_map}
-use Rattle.om_model.specs.ScriptCalls.{asked_in}
-use Rattle.om_model.specs.SlowCalls.{answers_in}
+use Rattle.om_model.specs.Scripts.Calls.{asked_in}
+use Rattle.om_model.specs.Slow.{answers_in}
 use Rattle.om_model.proofs.slow.calls.asked_in.Given as goal
 
 abbrev pub invariant-loop-one : goal.invariant-loop-one

@@ -1,6 +1,6 @@
 use Rattle.std.proofs.Common.{◌≡◌, map, take}
-use Rattle.om_model.specs.Entries.{entries_of}
-use Rattle.om_model.specs.SlowCalls.{answers_in, answered_from, seen_at}
+use Rattle.om_model.specs.Data.Room.{entries_of}
+use Rattle.om_model.specs.Slow.{answers_in, answered_from, seen_at}
 use Rattle.om_model.proofs.slow.calls.calls_read.Given as goal
 
 abbrev pub invariant-loop-call : goal.invariant-loop-call

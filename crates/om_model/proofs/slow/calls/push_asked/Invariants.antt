@@ -1,6 +1,6 @@
 use Rattle.std.proofs.Common.{◌≡◌, ◌++◌, take}
 use Rattle.std.specs.List.{flat_map, enumerate_from}
-use Rattle.om_model.specs.ScriptCalls.{asked_of}
+use Rattle.om_model.specs.Scripts.Calls.{asked_of}
 use Rattle.om_model.proofs.slow.calls.push_asked.Given as goal
 
 abbrev pub invariant-loop-hop : goal.invariant-loop-hop

@@ -1,6 +1,6 @@
 use Rattle.std.proofs.Common.{◌≡◌, ◌++◌, take}
 use Rattle.std.specs.List.{flat_map}
-use Rattle.om_model.specs.SlowCalls.{reply_to}
+use Rattle.om_model.specs.Slow.{reply_to}
 use Rattle.om_model.proofs.slow.calls.push_replies.Given as goal
 
 abbrev pub invariant-loop-asked : goal.invariant-loop-asked

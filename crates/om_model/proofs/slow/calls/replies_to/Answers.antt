@@ -1,8 +1,8 @@
 use Rattle.std.proofs.Common.{◌≡◌, ℕ, ◌++◌, ap, sym, ◌∙◌}
 use Rattle.std.specs.List.{flat_map}
-use Rattle.om_model.specs.Entries.{entries_of}
-use Rattle.om_model.specs.SlowCalls.{replies_at, reply_to, seen_at}
-use Rattle.om_model.proofs.AnsweredCalls.{range-flat_map}
+use Rattle.om_model.specs.Data.Room.{entries_of}
+use Rattle.om_model.specs.Slow.{replies_at, reply_to, seen_at}
+use Rattle.om_model.proofs.PlainCalls.{range-flat_map}
 use Rattle.om_model.proofs.slow.calls.replies_to.Goals as goal
 
 pub loop-hop-preserved : goal.loop-hop-preserved

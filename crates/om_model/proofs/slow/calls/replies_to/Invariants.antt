@@ -1,7 +1,7 @@
 use Rattle.std.proofs.Common.{◌≡◌}
 use Rattle.std.specs.List.{flat_map, range_with_len}
-use Rattle.om_model.specs.Entries.{entries_of}
-use Rattle.om_model.specs.SlowCalls.{replies_at, seen_at}
+use Rattle.om_model.specs.Data.Room.{entries_of}
+use Rattle.om_model.specs.Slow.{replies_at, seen_at}
 use Rattle.om_model.proofs.slow.calls.replies_to.Given as goal
 
 abbrev pub invariant-loop-hop : goal.invariant-loop-hop

@@ -1,7 +1,7 @@
-use Rattle.std.proofs.Common.{◌≡◌, take}
-use Rattle.std.specs.List.{flat_map}
-use Rattle.om_model.specs.ScriptCalls.{seen_in}
+use Rattle.std.proofs.Common.{◌≡◌, ◌++◌, drop}
+use Rattle.om_model.specs.Scripts.Calls.{seen_from, seen_in}
 use Rattle.om_model.proofs.slow.calls.seen_in.Given as goal
 
+-- what is left to see comes behind what was seen
 abbrev pub invariant-loop-i : goal.invariant-loop-i
-invariant-loop-i l = l.seen.items ≡ flat_map (seen_in l.caller) (take l.i l.journal.items)
+invariant-loop-i l = l.seen.items ++ seen_from l.caller l.phase (drop l.i l.journal.items) ≡ seen_in l.caller l.journal.items

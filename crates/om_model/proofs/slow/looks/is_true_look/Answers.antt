@@ -1,8 +1,7 @@
-use Rattle.std.proofs.Common.{◌≡◌, ℕ, ◌≤◌, ◌%◌, Bool, true, false, not, List, Option, Some, None, IsTrue, ◌↔◌, refl, sym, ap, ◌∙◌, arith}
+use Rattle.std.proofs.Common.{◌≡◌, ℕ, ◌≤◌, Bool, true, false, not, List, Option, Some, None, IsTrue, ◌↔◌, refl, sym, ap, ◌∙◌, arith}
 use Rattle.std.specs.Option.{is_some}
-use Rattle.om_geom.specs.Fit.{fit_of}
-use Rattle.om_model.specs.ZoneOrder.{last_version, owner}
-use Rattle.om_model.specs.Looks.{IsTrueLook}
+use Rattle.om_model.specs.Zones.Order.{last_version, fit_at}
+use Rattle.om_model.specs.Zones.Looks.{IsTrueLook}
 use Rattle.om_model.specs.declared.entry.ZoneMove.{ZoneMove}
 use Rattle.om_model.specs.declared.looks.Look.{Look}
 use Rattle.om_model.proofs.slow.looks.is_true_look.Goals as goal
@@ -19,10 +18,10 @@ none-found (Some first) false is e = cc
 
 decides : (moves : List ZoneMove) (count word version last : ℕ) (look : Look) (found : Option ℕ) (none : Bool)
     → version ≡ look.version → last ≡ last_version moves look.zone → version ≤ last
-    → found ≡ fit_of (λ bit. is_some (owner moves look.zone version bit)) count (word % 32) → is_some found ≡ not none
+    → found ≡ fit_at moves look.zone version count word → is_some found ≡ not none
     → IsTrue none ↔ IsTrueLook moves count word look
 decides moves count word version last look found none version_is last_is within found_is is =
-    let fit = found_is ∙ ap (λ v. fit_of (λ bit. is_some (owner moves look.zone v bit)) count (word % 32)) version_is in (
+    let fit = found_is ∙ ap (λ v. fit_at moves look.zone v count word) version_is in (
       (λ passes. record { version = omega arith; full = sym fit ∙ found-none found none is passes }),
       (λ true_look. none-found found none is (fit ∙ true_look.full)),
     )

@@ -1,11 +1,11 @@
 use Rattle.std.proofs.Common.{◌≡◌, ℕ, ◌+◌, Vec, Global, List, [], ◌∷◌, ◌++◌, Some, ap, ◌∙◌, sym, take, append-nil}
 use Rattle.std.specs.List.{flat_map, slice_get}
 use Rattle.std.proofs.lemmas.List.Concat.{flat_map-append}
-use Rattle.om_model.specs.Looks.{named_in}
+use Rattle.om_model.specs.Zones.Looks.{named_in}
 use Rattle.om_model.specs.declared.entry.Entry.TheVariants.{Call}
 use Rattle.om_model.specs.declared.looks.Named.{Named}
 use Rattle.om_model.specs.declared.entry.Entry.{Entry}
-use Rattle.om_model.specs.ListLaws.{take_next}
+use Rattle.om_model.proofs.Lists.{take_next}
 use Rattle.om_model.proofs.slow.looks.named_in.Goals as goal
 use Rattle.om_model.proofs.slow.looks.named_in.Goals.{in-Call+in_ok-push_named, in_default}
 

@@ -1,6 +1,6 @@
 use Rattle.std.proofs.Common.{◌≡◌, take}
 use Rattle.std.specs.List.{flat_map}
-use Rattle.om_model.specs.Looks.{named_in}
+use Rattle.om_model.specs.Zones.Looks.{named_in}
 use Rattle.om_model.proofs.slow.looks.named_in.Given as goal
 
 abbrev pub invariant-loop-i : goal.invariant-loop-i

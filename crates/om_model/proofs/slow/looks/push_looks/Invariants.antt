@@ -1,5 +1,5 @@
 use Rattle.std.proofs.Common.{◌≡◌, ◌++◌, map, take}
-use Rattle.om_model.specs.Looks.{named_by_look}
+use Rattle.om_model.specs.Zones.Looks.{named_by_look}
 use Rattle.om_model.proofs.slow.looks.push_looks.Given as goal
 
 abbrev pub invariant-loop-look : goal.invariant-loop-look

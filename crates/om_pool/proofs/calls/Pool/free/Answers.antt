@@ -1,7 +1,11 @@
 use Rattle.std.proofs.Common.{subst}
-use Rattle.om_pool.specs.PoolView.{IsRun}
-use Rattle.om_pool.proofs.Begun.{run-of}
+use Rattle.om_model.specs.Pool.Free.{free}
+use Rattle.om_model.specs.declared.operation.Op.TheVariants.{Free}
+use Rattle.om_pool.specs.CoreKept.{view_of}
+use Rattle.om_pool.specs.PoolView.{PoolView, Takes}
 use Rattle.om_pool.proofs.calls.Pool.free.Goals as goal
 
-pub returns-clause-before : goal.returns-clause-before
-returns-clause-before g c = subst IsRun c.self.view_is (run-of c.self.inside.core c.self.invariant)
+pub returns-clause-taken : goal.returns-clause-taken
+returns-clause-taken g c =
+    let Taken : PoolView → Type 0 = λ old. Takes old (view_of c.free.new.self) c.args.who (Free c.args.addr.0) c.free.result (λ answers. free old.rules old.state c.args.addr.0) in
+    subst Taken c.self.view_is c.free.ensures.taken

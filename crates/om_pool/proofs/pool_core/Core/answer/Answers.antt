@@ -1,12 +1,26 @@
-use Rattle.std.proofs.Common.{refl, arith}
-use Rattle.om_model.specs.Free.{unchanged}
-use Rattle.om_pool.specs.CoreKept.{state_in}
-use Rattle.om_pool.proofs.FreeCore.{still-core}
+use Rattle.std.proofs.Common.{None, refl, ap}
+use Rattle.om_model.specs.Pool.Steps.{unchanged}
+use Rattle.om_pool.specs.HoldingsView.{rules_in, state_in}
+use Rattle.om_pool.specs.declared.pool_core.Core.{Core}
+use Rattle.om_pool.proofs.CoreLaws.{kept, taken}
+use Rattle.om_pool.proofs.FreeLaws.{free-does}
 use Rattle.om_pool.proofs.pool_core.Core.answer.Goals as goal
 
-pub returns-clause-kept : goal.returns-clause-kept
-returns-clause-kept c =
-    still-core c.args.self.now c.args.self.now c.enter.new.self _ c.args.address (unchanged (state_in c.args.self.now) c.args.reply)
-    c.requires.kept c.requires.is (record { rules = refl; canary = refl; room = refl; journal = refl }) refl refl c.enter.ensures.added c.enter.ensures.same
-    (record { op_is = refl; reply_is = refl; words = c.empty.ensures; looks = c.empty-2.ensures; taken = refl; claim = refl; release = refl; inside = tt })
-    refl (omega arith) (c.requires.kept.kept).formed
+pub returns : goal.returns
+returns c =
+    let old = c.args.self.now in
+    let new = c.enter_free.new.self in
+    let same = c.enter_free.ensures.same in
+    let does = free-does old new c.args.who c.args.address c.args.reply (unchanged (state_in old.state) c.args.reply) c.empty.result None c.requires.kept
+    (record {
+      step_is = c.requires.is;
+      gives_up = record { run_is = refl; inside = tt };
+      words_are = c.empty.ensures;
+      next = ap (λ (x : Core). state_in x.state) same;
+      rules = ap (λ (x : Core). rules_in x.state) same;
+      canary = ap (λ (x : Core). x.canary) same;
+      room = ap (λ (x : Core). x.room) same;
+      left = (ap (λ (x : Core). x.zones) same, ap (λ (x : Core). x.state.held.items) same);
+    })
+    refl c.enter_free.ensures.added in
+    record { kept = kept old new _ _ _ _ _ _ _ c.requires.kept does; taken = taken old new _ _ _ _ _ _ _ c.requires.kept does }

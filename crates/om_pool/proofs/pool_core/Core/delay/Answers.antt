@@ -1,47 +1,75 @@
-use Rattle.std.proofs.Common.{◌%◌, sym, ap, ◌∙◌, ◌∷◌, []}
-use Rattle.om_model.specs.Free.{slot_of}
-use Rattle.om_pool.specs.CoreKept.{rules_in, state_in}
-use Rattle.om_pool.proofs.FreeKept.{delay-none}
-use Rattle.om_pool.proofs.FreeCore.{put-from, evicted-was, kept-core, kept-delay, evicted-on, let_go-core}
+use Rattle.std.proofs.Common.{◌≡◌, ℕ, ◌%◌, ◌++◌, List, [], ◌∷◌, None, IfSome, arith, refl, sym, subst, ap, ◌∙◌}
+use Rattle.om_model.specs.Pool.Free.{Freed, done_with, evicted, put_off, slot_of}
+use Rattle.om_model.specs.Pool.Journal.{GivesUp}
+use Rattle.om_model.specs.Pool.State.{State, drawn_more}
+use Rattle.om_model.specs.declared.entry.Entry.TheVariants.{Call}
+use Rattle.om_model.specs.declared.operation.Op.TheVariants.{Free}
+use Rattle.om_model.specs.declared.reply.Reply.TheVariants as reply
+use Rattle.om_pool.specs.Freeing.{IsHeldPlace}
+use Rattle.om_pool.specs.HoldingsView.{rules_in, state_in}
+use Rattle.om_pool.specs.Zones.{ZoneTable, IsLeft}
+use Rattle.om_pool.specs.declared.holdings.Holdings.{Holdings}
+use Rattle.om_pool.specs.declared.pool_core.Core.{Core}
+use Rattle.om_pool.proofs.CoreLaws.{core-sound, core_can_move, core_drawn, core_formed, entry_with, kept, taken}
+use Rattle.om_pool.proofs.Formed.{chunks-put_off, evicted-held-if}
+use Rattle.om_pool.proofs.FreeLaws.{delay-is, free-does}
 use Rattle.om_pool.proofs.pool_core.Core.delay.Goals as goal
 
-pub returns-then-is_surplus-clause-kept : goal.returns-then-is_surplus-clause-kept
-returns-then-is_surplus-clause-kept c =
-    let added = c.done.ensures.added in
-    let slot = ap (λ w. w % 16) c.draw-word.ensures.word in
-    let put = put-from c.args.self.now c.draw-word.new.self c.put_off-evicted.new.self c.args.address c.args.class (c.draw-word.result % 16) c.draw-word.ensures.same c.put_off-evicted.ensures.live c.put_off-evicted.ensures.same in
-    let was = evicted-was c.args.self.now c.draw-word.new.self (c.draw-word.result % 16) c.put_off-evicted.result c.draw-word.ensures.same c.put_off-evicted.ensures.evicted ∙ c.in-Some.is in
-    let on = evicted-on c.args.self.now (c.draw-word.result % 16) c.page_of_address-page.result c.in-Some.place c.requires.kept was c.page_of_address-page.ensures in
-    let_go-core c.args.self.now c.put_off-evicted.new.self c.let_go-release.new.self c.done.new.self added.entry c.args.address c.args.class (c.draw-word.result % 16) c.page_of_address-page.result c.in-Some.place c.let_go-release.result
-    c.requires.kept c.requires.is c.requires.held c.requires.class slot put was c.page_of_address-page.ensures
-    (sym c.is_surplus.ensures ∙ c.if-is_surplus.true) on.0 on.1
-    c.let_go-release.ensures.released c.let_go-release.ensures.held c.let_go-release.ensures.same
-    added.added added.same
-    (record { op_is = added.op_is; reply_is = added.reply_is; words = added.words ∙ ap (λ w. w ∷ []) c.draw-word.ensures.word; looks = added.looks; taken = added.taken; claim = added.claim })
-    added.release_is
+pub draw-word-requires : goal.draw-word-requires
+draw-word-requires c = let few = core_drawn c.args.self.now c.requires.kept c.requires.room.short in omega arith
 
-pub returns-else-is_surplus-clause-kept : goal.returns-else-is_surplus-clause-kept
-returns-else-is_surplus-clause-kept c =
-    let added = c.done-else-is_surplus.ensures.added in
-    let slot = ap (λ w. w % 16) c.draw-word.ensures.word in
-    let put = put-from c.args.self.now c.draw-word.new.self c.put_off-evicted.new.self c.args.address c.args.class (c.draw-word.result % 16) c.draw-word.ensures.same c.put_off-evicted.ensures.live c.put_off-evicted.ensures.same in
-    kept-core c.args.self.now c.put_off-evicted.new.self c.done-else-is_surplus.new.self added.entry c.args.address c.args.class (c.draw-word.result % 16)
-    c.requires.kept c.requires.is
-    (kept-delay c.args.self.now c.put_off-evicted.new.self c.args.address c.args.class (c.draw-word.result % 16) c.page_of_address-page.result c.in-Some.place slot put
-    (evicted-was c.args.self.now c.draw-word.new.self (c.draw-word.result % 16) c.put_off-evicted.result c.draw-word.ensures.same c.put_off-evicted.ensures.evicted ∙ c.in-Some.is) c.page_of_address-page.ensures (sym c.is_surplus.ensures ∙ c.if-is_surplus.false))
-    c.requires.held c.requires.class slot put
-    added.added added.same
-    (record { op_is = added.op_is; reply_is = added.reply_is; words = added.words ∙ ap (λ w. w ∷ []) c.draw-word.ensures.word; looks = added.looks; taken = added.taken; claim = added.claim })
-    added.release_is
+pub evict-release-requires-clause-chunks : goal.evict-release-requires-clause-chunks
+evict-release-requires-clause-chunks c =
+    chunks-put_off c.args.self.now.state c.draw-word.new.self c.put_off-evicted.new.self (c.draw-word.result % 16) c.args.place c.draw-word.ensures.same c.put_off-evicted.ensures.state c.put_off-evicted.ensures.rules
+    c.requires.place (core_formed c.args.self.now c.requires.kept).chunks
 
-pub returns-in-None-clause-kept : goal.returns-in-None-clause-kept
-returns-in-None-clause-kept c =
-    let added = c.done-in-None.ensures.added in
-    let slot = ap (λ w. w % 16) c.draw-word.ensures.word in
-    kept-core c.args.self.now c.put_off-evicted.new.self c.done-in-None.new.self added.entry c.args.address c.args.class (c.draw-word.result % 16)
-    c.requires.kept c.requires.is
-    (delay-none (rules_in c.args.self.now) (state_in c.args.self.now) c.args.address c.args.class (ap (slot_of (state_in c.args.self.now)) (sym slot) ∙ evicted-was c.args.self.now c.draw-word.new.self (c.draw-word.result % 16) c.put_off-evicted.result c.draw-word.ensures.same c.put_off-evicted.ensures.evicted ∙ c.in-None.is))
-    c.requires.held c.requires.class slot (put-from c.args.self.now c.draw-word.new.self c.put_off-evicted.new.self c.args.address c.args.class (c.draw-word.result % 16) c.draw-word.ensures.same c.put_off-evicted.ensures.live c.put_off-evicted.ensures.same)
-    added.added added.same
-    (record { op_is = added.op_is; reply_is = added.reply_is; words = added.words ∙ ap (λ w. w ∷ []) c.draw-word.ensures.word; looks = added.looks; taken = added.taken; claim = added.claim })
-    added.release_is
+pub evict-release-requires-clause-held : goal.evict-release-requires-clause-held
+evict-release-requires-clause-held c =
+    let old = c.args.self.now in
+    let P : List ℕ → Type 0 = λ pages. IfSome c.put_off-evicted.result (IsHeldPlace pages) in
+    subst P (sym (ap (λ (s : State). s.held) c.put_off-evicted.ensures.state ∙ ap (λ (x : Holdings). x.held.items) c.draw-word.ensures.same))
+    (evicted-held-if (rules_in old.state) (state_in old.state) (core-sound old c.requires.kept) refl (c.draw-word.result % 16) c.put_off-evicted.result
+    (c.put_off-evicted.ensures.evicted ∙ ap (λ (x : Holdings). slot_of (state_in x) (c.draw-word.result % 16)) c.draw-word.ensures.same))
+
+pub evict-release-requires-clause-zones : goal.evict-release-requires-clause-zones
+evict-release-requires-clause-zones c = c.requires.kept.zones.zones
+
+pub evict-release-requires-clause-versions : goal.evict-release-requires-clause-versions
+evict-release-requires-clause-versions c = core_can_move c.args.self.now c.requires.kept c.requires.room.short
+
+pub returns : goal.returns
+returns c =
+    let old = c.args.self.now in
+    let new = c.enter_free.new.self in
+    let rules = rules_in old.state in
+    let state = state_in old.state in
+    let slot : ℕ = c.draw-word.result % 16 in
+    let before = c.put_off-evicted.result in
+    let drawn = c.draw-word.ensures.same in
+    let same = c.enter_free.ensures.same in
+    let mid = ap state_in drawn in
+    let put : state_in c.put_off-evicted.new.self ≡ put_off (drawn_more 1 state) slot c.args.place = c.put_off-evicted.ensures.state ∙ ap (λ s. put_off s slot c.args.place) mid in
+    let ruled : rules_in c.put_off-evicted.new.self ≡ rules = c.put_off-evicted.ensures.rules ∙ ap rules_in drawn in
+    let left : Freed = evicted rules (put_off (drawn_more 1 state) slot c.args.place) before in
+    let is_left : evicted (rules_in c.put_off-evicted.new.self) (state_in c.put_off-evicted.new.self) before ≡ left =
+    ap (λ r. evicted r (state_in c.put_off-evicted.new.self) before) ruled ∙ ap (λ s. evicted rules s before) put in
+    let was = c.put_off-evicted.ensures.evicted ∙ ap (λ (x : Holdings). slot_of (state_in x) slot) drawn in
+    let Gives : Freed → Type 0 = λ l. GivesUp l.release c.evict-release.result in
+    let Zones : List ℕ → ZoneTable → List ℕ → Type 0 = λ pages z after. IsLeft old.zones z pages after c.evict-release.result in
+    let does = free-does old new c.args.who c.args.address _ (done_with 1 left) c.one.result c.evict-release.result c.requires.kept
+    (record {
+      step_is = c.requires.is ∙ delay-is rules state c.args.place slot before (ap (λ w. w % 16) c.draw-word.ensures.word) was;
+      gives_up = subst Gives is_left c.evict-release.ensures.gives_up;
+      words_are = c.one.ensures ∙ ap (λ w. w ∷ []) c.draw-word.ensures.word;
+      next = ap (λ (x : Core). state_in x.state) same ∙ c.evict-release.ensures.next ∙ ap (λ (l : Freed). l.next) is_left;
+      rules = ap (λ (x : Core). rules_in x.state) same ∙ c.evict-release.ensures.rules ∙ ruled;
+      canary = ap (λ (x : Core). x.canary) same ∙ ap (λ (x : Core). x.canary) c.evict-release.ensures.same;
+      room = ap (λ (x : Core). x.room) same ∙ ap (λ (x : Core). x.room) c.evict-release.ensures.same;
+      left =
+          subst (λ pages. Zones pages new.zones new.state.held.items) (ap (λ (s : State). s.held) put)
+          (subst (λ z. Zones c.put_off-evicted.new.self.held.items z new.state.held.items) (sym (ap (λ (x : Core). x.zones) same))
+          (subst (Zones c.put_off-evicted.new.self.held.items c.evict-release.new.self.zones) (sym (ap (λ (x : Core). x.state.held.items) same)) c.evict-release.ensures.zones));
+    })
+    refl
+    (c.enter_free.ensures.added ∙ ap (λ (x : Core). x.journal.items ++ Call (entry_with c.args.who (Free c.args.address) reply.Done c.one.result (record { claim = None; looks = []; taken = None }) c.evict-release.result) ∷ []) c.evict-release.ensures.same) in
+    record { kept = kept old new _ _ _ _ _ _ _ c.requires.kept does; taken = taken old new _ _ _ _ _ _ _ c.requires.kept does }

@@ -1,0 +1,138 @@
+-- What holds of each element of a list, and of each pair, where the list is filtered or gets one more.
+use Rattle.std.proofs.Common.{◌≡◌, ℕ, zero, suc, ◌+◌, ◌<◌, Bool, true, false, ◌||◌, nat_eq, nat_lt, List, [], ◌∷◌, ◌++◌, cond, Option, Some, None, slice_set, refl, ◌∙◌, subst, arith, eq-eqb}
+use Rattle.std.specs.List.{list_any, filter, find, slice_get, range_with_len, AllByRecursion}
+use Rattle.std.proofs.lemmas.Bool.{cases_Bool, cases_lt, cases_eq, eqb-true, or_left, or_right, lt-ltb}
+use Rattle.std.proofs.lemmas.List.Folds.{list_any-append}
+use mathlib.Core.Logic.{⊎_elim}
+use Rattle.om_model.specs.Pool.WellFormed.{EachPair}
+
+-- ---- each element
+
+pub all-weaker : {X : Type 0} (P Q : X → Type 0) (xs : List X) → ((x : X) → P x → Q x) → AllByRecursion P xs → AllByRecursion Q xs
+all-weaker P Q [] step all = tt
+all-weaker P Q (x ∷ xs) step all = (step x all.0, all-weaker P Q xs step all.1)
+
+pub all-both : {X : Type 0} (P Q R : X → Type 0) (xs : List X) → ((x : X) → P x → Q x → R x) → AllByRecursion P xs → AllByRecursion Q xs → AllByRecursion R xs
+all-both P Q R [] step first second = tt
+all-both P Q R (x ∷ xs) step first second = (step x first.0 second.0, all-both P Q R xs step first.1 second.1)
+
+pub all-append : {X : Type 0} (P : X → Type 0) (xs ys : List X) → AllByRecursion P xs → AllByRecursion P ys → AllByRecursion P (xs ++ ys)
+all-append P [] ys first second = second
+all-append P (x ∷ xs) ys first second = (first.0, all-append P xs ys first.1 second)
+
+pub all-first : {X : Type 0} (P : X → Type 0) (xs ys : List X) → AllByRecursion P (xs ++ ys) → AllByRecursion P xs
+all-first P [] ys all = tt
+all-first P (x ∷ xs) ys all = (all.0, all-first P xs ys all.1)
+
+pub all-second : {X : Type 0} (P : X → Type 0) (xs ys : List X) → AllByRecursion P (xs ++ ys) → AllByRecursion P ys
+all-second P [] ys all = all
+all-second P (x ∷ xs) ys all = all-second P xs ys all.1
+
+-- one more stands between two lists
+pub all-insert : {X : Type 0} (P : X → Type 0) (new : X) (xs ys : List X) → P new → AllByRecursion P (xs ++ ys) → AllByRecursion P ((xs ++ new ∷ []) ++ ys)
+all-insert P new [] ys here all = (here, all)
+all-insert P new (x ∷ xs) ys here all = (all.0, all-insert P new xs ys here all.1)
+
+all-cond : {X : Type 0} (P : X → Type 0) (here : Bool) (x : X) (xs : List X) → (here ≡ true → P x) → AllByRecursion P xs → AllByRecursion P (cond here (x ∷ xs) xs)
+all-cond P true x xs first rest = (first refl, rest)
+all-cond P false x xs first rest = rest
+
+pub all-filter : {X : Type 0} (P : X → Type 0) (test : X → Bool) (xs : List X) → AllByRecursion P xs → AllByRecursion P (filter test xs)
+all-filter P test [] all = all
+all-filter P test (x ∷ xs) all = all-cond P (test x) x (filter test xs) (λ passes. all.0) (all-filter P test xs all.1)
+
+pub passes-filter : {X : Type 0} (test : X → Bool) (xs : List X) → AllByRecursion (λ x. test x ≡ true) (filter test xs)
+passes-filter test [] = tt
+passes-filter test (x ∷ xs) = all-cond (λ y. test y ≡ true) (test x) x (filter test xs) (λ passes. passes) (passes-filter test xs)
+
+pub all-find : {X : Type 0} (P : X → Type 0) (test : X → Bool) (xs : List X) (y : X) → AllByRecursion P xs → find test xs ≡ Some y → P y
+all-find P test [] y all found = cc
+all-find {X} P test (x ∷ xs) y all found = ⊎_elim
+    (λ t. let here : Some x ≡ Some y = rw t at found in let same : x ≡ y = cc in subst P same all.0)
+    (λ f. all-find P test xs y all.1 (rw f at found))
+    (cases_Bool (test x))
+
+pub all-get : {X : Type 0} (P : X → Type 0) (xs : List X) (i : ℕ) (y : X) → AllByRecursion P xs → slice_get xs i ≡ Some y → P y
+all-get P [] i y all found = cc
+all-get P (x ∷ xs) zero y all found = let same : x ≡ y = cc in subst P same all.0
+all-get P (x ∷ xs) (suc i) y all found = all-get P xs i y all.1 found
+
+-- ---- tests of which none holds, or one does
+
+pub or_none : (a b : Bool) → (a || b) ≡ false → (a ≡ false) × (b ≡ false)
+or_none true b e = cc
+or_none false b e = (refl, e)
+
+pub or_some : (a b : Bool) → a ≡ false → (a || b) ≡ true → b ≡ true
+or_some true b e some = cc
+or_some false b e some = some
+
+pub none-any : {X : Type 0} (test : X → Bool) (xs : List X) → list_any test xs ≡ false → AllByRecursion (λ x. test x ≡ false) xs
+none-any test [] none = tt
+none-any test (x ∷ xs) none =
+    let parts = or_none (test x) (list_any test xs) none in
+    (parts.0, none-any test xs parts.1)
+
+pub any-none : {X : Type 0} (test : X → Bool) (xs : List X) → AllByRecursion (λ x. test x ≡ false) xs → list_any test xs ≡ false
+any-none test [] all = refl
+any-none test (x ∷ xs) all = rw all.0 (any-none test xs all.1)
+
+pub any-range : (test : ℕ → Bool) (n : ℕ) → 0 < n → test 0 ≡ true → list_any test (range_with_len 0 n) ≡ true
+any-range test zero some passes = absurd (omega arith)
+any-range test (suc n) some passes = or_left (test 0) (list_any test (range_with_len 1 n)) passes
+
+-- an element that passes the test, and what holds of each
+pub record Passing {X : Type 0} (test : X → Bool) (P : X → Type 0) : Type 0 where
+  pub element : X
+  pub passes : test element ≡ true
+  pub holds : P element
+
+pub any-passing : {X : Type 0} (test : X → Bool) (P : X → Type 0) (xs : List X) → list_any test xs ≡ true → AllByRecursion P xs → Passing test P
+any-passing test P [] some all = cc
+any-passing test P (x ∷ xs) some all = ⊎_elim
+    (λ t. record { element = x; passes = t; holds = all.0 })
+    (λ f. any-passing test P xs (or_some (test x) (list_any test xs) f some) all.1)
+    (cases_Bool (test x))
+
+pub all-range : (a n : ℕ) → AllByRecursion (λ i. i < a + n) (range_with_len a n)
+all-range a zero = tt
+all-range a (suc n) = (omega arith, all-weaker (λ i. i < (a + 1) + n) (λ i. i < a + suc n) (range_with_len (a + 1) n) (λ i lt. omega arith) (all-range (a + 1) n))
+
+-- ---- each pair
+
+pub pairs-insert : {X : Type 0} (R : X → X → Type 0) (new : X) (xs ys : List X) → AllByRecursion (R new) (xs ++ ys) → AllByRecursion (λ x. R x new) (xs ++ ys) → EachPair R (xs ++ ys) → EachPair R ((xs ++ new ∷ []) ++ ys)
+pairs-insert R new [] ys before after pairs = (before, pairs)
+pairs-insert R new (x ∷ xs) ys before after pairs =
+    (all-insert (R x) new xs ys after.0 pairs.0, pairs-insert R new xs ys before.1 after.1 pairs.1)
+
+pub pairs-first : {X : Type 0} (R : X → X → Type 0) (xs ys : List X) → EachPair R (xs ++ ys) → EachPair R xs
+pairs-first R [] ys pairs = tt
+pairs-first R (x ∷ xs) ys pairs = (all-first (R x) xs ys pairs.0, pairs-first R xs ys pairs.1)
+
+pub pairs-second : {X : Type 0} (R : X → X → Type 0) (xs ys : List X) → EachPair R (xs ++ ys) → EachPair R ys
+pairs-second R [] ys pairs = pairs
+pairs-second R (x ∷ xs) ys pairs = pairs-second R xs ys pairs.1
+
+pub pairs-across : {X : Type 0} (R : X → X → Type 0) (xs ys : List X) → EachPair R (xs ++ ys) → AllByRecursion (λ x. AllByRecursion (R x) ys) xs
+pairs-across R [] ys pairs = tt
+pairs-across R (x ∷ xs) ys pairs = (all-second (R x) xs ys pairs.0, pairs-across R xs ys pairs.1)
+
+pub pairs-append : {X : Type 0} (R : X → X → Type 0) (xs ys : List X) → EachPair R xs → EachPair R ys → AllByRecursion (λ x. AllByRecursion (R x) ys) xs → EachPair R (xs ++ ys)
+pairs-append R [] ys first second across = second
+pairs-append R (x ∷ xs) ys first second across = (all-append (R x) xs ys first.0 across.0, pairs-append R xs ys first.1 second across.1)
+
+pairs-cond : {X : Type 0} (R : X → X → Type 0) (here : Bool) (x : X) (xs : List X) → AllByRecursion (R x) xs → EachPair R xs → EachPair R (cond here (x ∷ xs) xs)
+pairs-cond R true x xs first rest = (first, rest)
+pairs-cond R false x xs first rest = rest
+
+pub pairs-filter : {X : Type 0} (R : X → X → Type 0) (test : X → Bool) (xs : List X) → EachPair R xs → EachPair R (filter test xs)
+pairs-filter R test [] pairs = pairs
+pairs-filter R test (x ∷ xs) pairs = pairs-cond R (test x) x (filter test xs) (all-filter (R x) test xs pairs.0) (pairs-filter R test xs pairs.1)
+
+-- a symmetric relation of each pair holds of each element and every one
+pub pairs-all : {X : Type 0} (R : X → X → Type 0) (xs : List X) → ((a : X) → R a a) → ((a b : X) → R a b → R b a) → EachPair R xs → AllByRecursion (λ y. AllByRecursion (R y) xs) xs
+pairs-all R [] self swap pairs = tt
+pairs-all R (x ∷ xs) self swap pairs = (
+  (self x, pairs.0),
+  all-both (λ y. AllByRecursion (R y) xs) (λ y. R y x) (λ y. AllByRecursion (R y) (x ∷ xs)) xs (λ y all back. (back, all)) (pairs-all R xs self swap pairs.1) (all-weaker (R x) (λ y. R y x) xs (λ y. swap x y) pairs.0),
+)

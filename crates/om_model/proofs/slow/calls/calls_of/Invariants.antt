@@ -1,6 +1,0 @@
-use Rattle.std.proofs.Common.{◌≡◌, map, take}
-use Rattle.om_model.specs.SlowCalls.{answers_in}
-use Rattle.om_model.proofs.slow.calls.calls_of.Given as goal
-
-abbrev pub invariant-loop-one : goal.invariant-loop-one
-invariant-loop-one l = l.calls.items ≡ map (λ a. a.0) (answers_in (take l.one-index l.answered))

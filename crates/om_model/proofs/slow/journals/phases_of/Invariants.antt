@@ -1,6 +1,0 @@
-use Rattle.std.proofs.Common.{◌≡◌, take}
-use Rattle.om_model.specs.LawfulJournal.{phase_numbers}
-use Rattle.om_model.proofs.slow.journals.phases_of.Given as goal
-
-abbrev pub invariant-loop-i : goal.invariant-loop-i
-invariant-loop-i l = l.phases.items ≡ phase_numbers (take l.i l.journal.items)

@@ -1,5 +1,0 @@
-use Rattle.std.proofs.Common.{length}
-use Rattle.om_model.proofs.slow.scripts.+run_from.Given as goal
-
-abbrev pub decreases-run_from : goal.decreases-run_from
-decreases-run_from l = length l.commands.now

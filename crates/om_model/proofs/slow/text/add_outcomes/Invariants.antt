@@ -1,7 +1,0 @@
-use Rattle.std.proofs.Common.{◌≡◌, ◌++◌, take}
-use Rattle.std.specs.List.{flat_map, enumerate_from}
-use Rattle.om_model.specs.TextParts.{numbered_line}
-use Rattle.om_model.proofs.slow.text.add_outcomes.Given as goal
-
-abbrev pub invariant-loop-i : goal.invariant-loop-i
-invariant-loop-i l = l.text.items ≡ l.initial.text.items ++ flat_map numbered_line (take l.i (enumerate_from 1 l.outcomes))

@@ -1,7 +1,0 @@
-use Rattle.std.proofs.Common.{◌≡◌, ◌++◌, take}
-use Rattle.std.specs.List.{flat_map, enumerate_from}
-use Rattle.om_model.specs.TextParts.{script_text}
-use Rattle.om_model.proofs.slow.text.add_scripts.Given as goal
-
-abbrev pub invariant-loop-number : goal.invariant-loop-number
-invariant-loop-number l = l.text.items ≡ l.initial.text.items ++ flat_map script_text (take l.number (enumerate_from 0 l.scripts))

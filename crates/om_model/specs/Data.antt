@@ -1,0 +1,3 @@
+pub mod CallEntry
+pub mod Ranges
+pub mod Room

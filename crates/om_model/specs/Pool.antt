@@ -1,0 +1,11 @@
+pub mod Rules
+pub mod Runs
+pub mod State
+pub mod InUse
+pub mod Picks
+pub mod Steps
+pub mod Malloc
+pub mod Standing
+pub mod Free
+pub mod Journal
+pub mod WellFormed

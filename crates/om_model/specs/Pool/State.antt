@@ -1,0 +1,52 @@
+-- The state of a pool: the pages that it holds, in ascending order; its live blocks; its slots, each with a
+-- delayed place or nothing; and how many random words it has drawn.
+use Rattle.std.specs.Prelude.{ℕ, ◌+◌, Bool, ◌&&◌, not, nat_eq, nat_le, nat_lt, List, [], ◌++◌, Option, None, filter, replicate}
+use Rattle.std.specs.List.{filter_map, list_any, range_with_len}
+use Rattle.om_geom.specs.Addresses.{is_in_arena, page_at}
+use Rattle.om_model.specs.Pool.Rules.{Rules}
+use Rattle.om_model.specs.Pool.Runs.{Run, is_page_of}
+use Rattle.om_model.specs.declared.block.Block.{Block}
+use Rattle.om_model.specs.declared.block.Place.{Place}
+
+abbrev pub slot_count : ℕ
+slot_count = 16
+
+pub record State : Type 0 where
+  pub held : List ℕ
+  pub live : List Block
+  pub slots : List (Option Place)
+  pub drawn : ℕ
+
+-- the word for the canary byte is drawn at the start
+abbrev pub opening : State
+opening = record { held = []; live = []; slots = replicate slot_count None; drawn = 1 }
+
+-- so many more words are drawn
+abbrev pub drawn_more : ℕ → State → State
+drawn_more count state = record state { drawn = state.drawn + count }
+
+-- the delayed places, in the order of their slots
+abbrev pub delayed : List (Option Place) → List Place
+delayed slots = filter_map (λ slot. slot) slots
+
+abbrev pub is_held : List ℕ → ℕ → Bool
+is_held held page = list_any (nat_eq page) held
+
+-- whether the page of the address is held
+abbrev pub holds : Rules → State → ℕ → Bool
+holds rules state address = is_in_arena address rules.zones && is_held state.held (page_at address)
+
+-- the held pages with those of a run, in ascending order again
+abbrev pub with_run : Run → List ℕ → List ℕ
+with_run run held =
+    filter (λ page. nat_lt page run.first) held ++ range_with_len run.first run.count ++ filter (λ page. nat_le (run.first + run.count) page) held
+
+abbrev pub without_run : Run → List ℕ → List ℕ
+without_run run held = filter (λ page. not (is_page_of run page)) held
+
+-- the pages of a run join the held ones, or leave them
+abbrev pub with_pages : Run → State → State
+with_pages run state = record state { held = with_run run state.held }
+
+abbrev pub without_pages : Run → State → State
+without_pages run state = record state { held = without_run run state.held }

@@ -1,0 +1,49 @@
+-- Well-formed states: what is in use shares no byte and lies on held pages, and no page is touched by places of
+-- two classes, or by a place and a page block. Chunks are places of their pages. Held pages ascend and are pages of
+-- the arena. There are 16 slots, and every live block is a chunk so far.
+use Rattle.std.specs.Prelude.{◌≡◌, ℕ, ◌*◌, ◌<◌, true, List, [], ◌∷◌, length, IsSome}
+use Rattle.std.specs.List.{AllByRecursion}
+use Rattle.om_geom.specs.Addresses.{Covers, SharesByte, address_of, page_at}
+use Rattle.om_geom.specs.Numbers.{zone_pages}
+use Rattle.om_model.specs.Pool.Rules.{Rules, size_class}
+use Rattle.om_model.specs.Pool.State.{State, slot_count, holds}
+use Rattle.om_model.specs.Pool.InUse.{Kind, Chunk, Use, uses, touches}
+use Rattle.om_model.specs.Pool.Picks.{starts_place}
+
+-- the relation holds of each element and each one after it
+abbrev pub EachPair : {X : Type 0} → (X → X → Type 0) → List X → Type 0
+EachPair R [] = Unit {0}
+EachPair R (x ∷ xs) = AllByRecursion (R x) xs × EachPair R xs
+
+abbrev pub AreApart : Use → Use → Type 0
+AreApart a b = SharesByte a.extent b.extent → ⊥
+
+-- places of one class, or page blocks and their guards
+abbrev pub AreAlike : Kind → Kind → Type 0
+AreAlike (Chunk one) (Chunk other) = one ≡ other
+AreAlike (Chunk class) kind = ⊥
+AreAlike kind (Chunk class) = ⊥
+AreAlike kind other = Unit {0}
+
+-- what touches one page is alike
+abbrev pub AgreeOnPages : Use → Use → Type 0
+AgreeOnPages a b = (page : ℕ) → touches page a ≡ true → touches page b ≡ true → AreAlike a.kind b.kind
+
+-- a chunk begins where a place does, and what has whole pages at the first byte of a page
+abbrev pub BeginsRight : ℕ → Kind → Type 0
+BeginsRight address (Chunk class) = starts_place class address ≡ true
+BeginsRight address kind = address ≡ address_of (page_at address)
+
+-- every byte is on a held page
+abbrev pub LiesOn : Rules → State → Use → Type 0
+LiesOn rules state one = (byte : ℕ) → Covers one.extent byte → holds rules state byte ≡ true
+
+pub record IsWellFormed (rules : Rules) (state : State) : Type 0 where
+  pub ascend : EachPair ◌<◌ state.held
+  pub arena : AllByRecursion (λ page. page < zone_pages * rules.zones) state.held
+  pub slots : length state.slots ≡ slot_count
+  pub chunks : AllByRecursion (λ block. IsSome (size_class rules block.size)) state.live
+  pub begin : AllByRecursion (λ one. BeginsRight (one.extent).first one.kind) (uses rules state)
+  pub apart : EachPair AreApart (uses rules state)
+  pub on_held : AllByRecursion (LiesOn rules state) (uses rules state)
+  pub alike : EachPair AgreeOnPages (uses rules state)

@@ -1,8 +1,0 @@
--- Lists that say beside their items for how many more room is already made. What a list is before and
--- after a call are its items: the room may grow at any time.
-use Rattle.std.specs.Prelude.{ℕ, List}
-use Rattle.om_model.specs.declared.looks.Look.{Look}
-
-pub record Looks : Type 0 where
-  pub items : List Look
-  pub spare : ℕ

@@ -1,0 +1,247 @@
+//! The step of a free, by what stands at the address.
+ghost use Rattle.std.specs.Prelude.{◌≡◌, ◌^◌, ◌<◌, IfOk};
+ghost use Rattle.om_words.specs.PlannedWords.{HasWords};
+ghost use Rattle.om_model.specs.Output.Head.{rules_of};
+ghost use Rattle.om_model.specs.Pool.Free.{is_surplus, kept_or_let_go, evicted, without_block, drawn_slot, slot_of, put_off, moved_to_slot, done_with, delay, slot_holds, freed_again, without_page_block, free_at, free};
+ghost use Rattle.om_model.specs.Slow.{run_in, standing_in};
+
+use super::in_use::{free_pages, is_free_page, uses};
+use super::rules::{block_pages, word_at};
+use super::standing::{Standing, stands_at};
+use super::state::{State, page_at, without_run};
+use super::steps::{Run, Step, unchanged};
+use crate::block::{Block, Place};
+use crate::content::Head;
+use crate::reply::{Fault, Reply};
+use std::alloc::AllocError;
+use std::marker::Model;
+
+/// A state after pages became free, and the run that was let go.
+#[derive(Drop)]
+struct Freed {
+    release: Option<Run>,
+    next: State,
+}
+
+impl Model for Freed {
+    ghost use Rattle.std.specs.Option.{option_map};
+    ghost use Rattle.om_model.specs.Pool.Free;
+    ghost use Rattle.om_model.specs.Slow.{run_in};
+
+    ghost Value = { Free.Freed };
+
+    ghost view = { λ l. record { release = option_map run_in l.release; next = l.next } };
+}
+
+// More pages are free than the pool keeps.
+fn is_surplus(head: &Head, pool: u32, state: &State) -> Result<bool, AllocError>
+    ensures { IfOk result (λ is. is ≡ is_surplus (rules_of head.now pool) state.now) }
+{
+    let used = uses(head, pool, state)?;
+    let pages = free_pages(state.alloc, &used, &state.held)?;
+    Ok(pages.len() > head.opts.cache as usize)
+}
+
+// A run that became free is let go where it is surplus.
+#[tactic(auto, unfolding(crate::specs::Pool::Free::kept_or_let_go))]
+fn kept_or_let_go(head: &Head, pool: u32, mut state: State, run: Run) -> Result<Freed, AllocError>
+    ensures { IfOk result (λ left. left ≡
+        kept_or_let_go (rules_of head.now pool) state (run_in run)) }
+{
+    let mut release = None;
+    if is_surplus(head, pool, &state)? {
+        state.held = without_run(state.alloc, run, &state.held)?;
+        release = Some(run);
+    }
+    Ok(Freed {
+        release,
+        next: state,
+    })
+}
+
+// After a place left its slot, its page becomes free where nothing touches it any more.
+fn evicted(head: &Head, pool: u32, state: State, slot: Option<Place>) -> Result<Freed, AllocError>
+    ensures { IfOk result (λ left. left ≡ evicted (rules_of head.now pool) state slot) }
+{
+    if let Some(place) = slot {
+        let first = page_at(place.address);
+        let used = uses(head, pool, &state)?;
+        if is_free_page(&used, first) {
+            return kept_or_let_go(head, pool, state, Run { first, count: 1 });
+        }
+    }
+    Ok(Freed {
+        release: None,
+        next: state,
+    })
+}
+
+fn without_block(state: &State, address: u64) -> Result<State, AllocError>
+    ensures { IfOk result (λ next. next ≡ without_block state.now address) }
+{
+    let mut next = state.copy()?;
+    next.live = state
+        .live
+        .iter()
+        .copied()
+        .filter(|block| block.address != address)
+        .collect(state.alloc)?;
+    Ok(next)
+}
+
+// The slot that the next word chooses.
+fn drawn_slot(head: &Head, pool: u32, state: &State) -> usize
+    requires words { HasWords head.now.plan }
+    requires few { state.now.drawn < 2 ^ 63 }
+    ensures { result ≡ drawn_slot (rules_of head.now pool) state.now }
+{
+    word_at(head, pool, state.drawn) as usize % 16
+}
+
+fn put_off(state: &State, slot: usize, place: Place) -> Result<State, AllocError>
+    requires { slot < 16 }
+    ensures { IfOk result (λ next. next ≡ put_off state.now slot place) }
+{
+    let mut next = without_block(state, place.address)?;
+    next.slots[slot] = Some(place);
+    Ok(next)
+}
+
+fn slot_of(state: &State, slot: usize) -> Option<Place>
+    requires { slot < 16 }
+    ensures { result ≡ slot_of state.now slot }
+{
+    state.slots[slot]
+}
+
+// A place is put off to the slot, and what this had is evicted.
+fn moved_to_slot(
+    head: &Head,
+    pool: u32,
+    state: &State,
+    slot: usize,
+    place: Place,
+) -> Result<Freed, AllocError>
+    requires { slot < 16 }
+    ensures { IfOk result (λ left. left ≡
+        moved_to_slot (rules_of head.now pool) state.now slot place) }
+{
+    let next = put_off(state, slot, place)?;
+    evicted(head, pool, next, slot_of(state, slot))
+}
+
+// Done, by so many words.
+fn done_with(words: u32, left: Freed) -> Step
+    ensures { result ≡ done_with words left }
+{
+    Step {
+        reply: Reply::Done,
+        words,
+        release: left.release,
+        next: left.next,
+    }
+}
+
+// A live place is put off to the slot that is drawn.
+#[tactic(auto, unfolding(crate::specs::Pool::Free::delay))]
+fn delay(head: &Head, pool: u32, state: &State, place: Place) -> Result<Step, AllocError>
+    requires words { HasWords head.now.plan }
+    requires few { state.now.drawn < 2 ^ 63 }
+    ensures { IfOk result (λ step. step ≡ delay (rules_of head.now pool) state.now place) }
+{
+    let slot = drawn_slot(head, pool, state);
+    let mut next = state.copy()?;
+    next.drawn += 1;
+    let left = moved_to_slot(head, pool, &next, slot, place)?;
+    Ok(done_with(1, left))
+}
+
+fn slot_holds(slot: Option<Place>, address: u64) -> bool
+    ensures { result ≡ slot_holds slot address }
+{
+    match slot {
+        Some(place) => place.address == address,
+        None => false,
+    }
+}
+
+// A delayed place is freed again. Without freecheck this is seen only where the drawn slot holds it.
+#[tactic(auto, unfolding(crate::specs::Pool::Free::freed_again))]
+fn freed_again(head: &Head, pool: u32, state: &State, address: u64) -> Result<Step, AllocError>
+    requires words { HasWords head.now.plan }
+    requires few { state.now.drawn < 2 ^ 63 }
+    ensures { IfOk result (λ step. step ≡ freed_again (rules_of head.now pool) state.now address) }
+{
+    let slot = drawn_slot(head, pool, state);
+    let seen = head.opts.freecheck || slot_holds(slot_of(state, slot), address);
+    let mut next = state.copy()?;
+    next.drawn += 1;
+    Ok(Step {
+        reply: if seen {
+            Reply::Fault(Fault::DoubleFree)
+        } else {
+            Reply::Done
+        },
+        words: 1,
+        release: None,
+        next,
+    })
+}
+
+// A page block leaves the live blocks: its pages with the guard are a run that becomes free.
+fn without_page_block(
+    head: &Head,
+    pool: u32,
+    state: &State,
+    block: Block,
+) -> Result<Freed, AllocError>
+    ensures { IfOk result (λ left. left ≡
+        without_page_block (rules_of head.now pool) state.now block) }
+{
+    let next = without_block(state, block.address)?;
+    let run = Run {
+        first: page_at(block.address),
+        count: block_pages(head, block.size),
+    };
+    kept_or_let_go(head, pool, next, run)
+}
+
+fn free_at(
+    head: &Head,
+    pool: u32,
+    state: &State,
+    address: u64,
+    stands: Standing,
+) -> Result<Step, AllocError>
+    requires words { HasWords head.now.plan }
+    requires few { state.now.drawn < 2 ^ 63 }
+    ensures { IfOk result (λ step. step ≡
+        free_at (rules_of head.now pool) state.now address (standing_in stands)) }
+{
+    match stands {
+        Standing::NotHeld => unchanged(state, Reply::Miss),
+        Standing::PageBlock(block) => {
+            let left = without_page_block(head, pool, state, block)?;
+            Ok(done_with(0, left))
+        }
+        Standing::FreePage | Standing::InPageBlock | Standing::OnGuard => {
+            unchanged(state, Reply::Fault(Fault::Bogus))
+        }
+        Standing::Unaligned => unchanged(state, Reply::Fault(Fault::ModifiedPointer)),
+        Standing::FreePlace => unchanged(state, Reply::Fault(Fault::AlreadyFree)),
+        Standing::DelayedPlace(_) => freed_again(head, pool, state, address),
+        Standing::LivePlace(place, _) => delay(head, pool, state, place),
+    }
+}
+
+impl State {
+    /// The step of a free.
+    pub fn free(&self, head: &Head, pool: u32, address: u64) -> Result<Step, AllocError>
+        requires words { HasWords head.now.plan }
+        requires few { self.now.drawn < 2 ^ 63 }
+        ensures { IfOk result (λ step. step ≡ free (rules_of head.now pool) self.now address) }
+    {
+        let stands = stands_at(head, pool, self, address)?;
+        free_at(head, pool, self, address, stands)
+    }
+}

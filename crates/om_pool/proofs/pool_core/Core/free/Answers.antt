@@ -1,0 +1,5 @@
+use Rattle.om_pool.proofs.CoreLaws.{core_chunks}
+use Rattle.om_pool.proofs.pool_core.Core.free.Goals as goal
+
+pub standing-requires : goal.standing-requires
+standing-requires c = core_chunks c.args.self.now c.requires.kept

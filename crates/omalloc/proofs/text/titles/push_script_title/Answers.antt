@@ -1,9 +1,0 @@
-use Rattle.std.proofs.Common.{append_assoc}
-use Rattle.omalloc.proofs.text.titles.push_script_title.Goals as goal
-
-pub returns : goal.returns
-returns c =
-    let first = c.in_ok-extend_from_slice.ensures.items in
-    let second = c.in_ok-extend_from_slice-2.ensures.items in
-    let third = c.in_ok-push.ensures.items in
-    rw (third, second, first) (simp append_assoc)

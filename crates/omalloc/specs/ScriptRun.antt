@@ -1,0 +1,78 @@
+-- Script run. Given the replies to its calls, a script takes its commands in order, from number 1 on, with
+-- all variables 0. It ends after its last command, or at the first outcome that is a fault. Its calls stand in
+-- the journals, all of them in phase 0 so far.
+use Rattle.std.specs.Prelude.{◌≡◌, ℕ, ◌+◌, ◌==◌, List, [], ◌∷◌, Option, Some, None, if◌then◌else◌, slice_index, slice_set, replicate, length, map, ◌⊎◌, IsTrue}
+use Rattle.std.specs.List.{list_any}
+use Rattle.om_model.specs.declared.entry.Entry.{Entry}
+use Rattle.om_model.specs.declared.operation.Op.{Op}
+use Rattle.om_model.specs.declared.operation.Op.TheVariants as op
+use Rattle.om_model.specs.declared.operation.Call.{Call}
+use Rattle.om_model.specs.declared.reply.Reply.{Reply}
+use Rattle.om_model.specs.declared.reply.Outcome.{Outcome}
+use Rattle.om_model.specs.declared.reply.Outcome.TheVariants as outcome
+use Rattle.om_model.specs.Scripts.Calls.{AreCalls, last_reply}
+use Rattle.om_model.specs.Scripts.Outcomes.{outcome_of, is_fault}
+use Rattle.omalloc.specs.declared.command.Command.{Command}
+use Rattle.omalloc.specs.declared.command.Command.TheVariants as command
+
+-- the call that a command makes; a free of 0 makes none
+abbrev pub op_of : List ℕ → Command → Option Op
+op_of values (command.Malloc var size site) = Some (op.Malloc size site)
+op_of values (command.Free var) = if slice_index values var == 0 then None else Some (op.Free (slice_index values var))
+
+-- the number that an allocation leaves in its variable
+abbrev pub given : Outcome → ℕ
+given (outcome.Block address) = address
+given other = 0
+
+-- the variables after a command that met no fault
+abbrev pub assigned : List ℕ → Command → Outcome → List ℕ
+assigned values (command.Malloc var size site) o = slice_set values var (given o)
+assigned values (command.Free var) o = values
+
+-- the calls that a script makes, and its outcomes
+pub record Course : Type 0 where
+  pub calls : List Call
+  pub outcomes : List Outcome
+
+abbrev pub nothing : Course
+nothing = record { calls = []; outcomes = [] }
+
+abbrev pub with_outcome : Outcome → Course → Course
+with_outcome o course = record { calls = course.calls; outcomes = o ∷ course.outcomes }
+
+abbrev pub with_call : Call → Course → Course
+with_call call course = record { calls = call ∷ course.calls; outcomes = course.outcomes }
+
+-- the call of the command with this number
+abbrev pub call_of : ℕ → Op → Call
+call_of number called = record { command = number; phase = 0; op = called }
+
+-- a command without a call is done; one with a call takes the next reply, and a fault ends the script
+abbrev pub command_run : ℕ → Option Op → List Reply → (Outcome → List Reply → Course) → Course
+command_run number None replies others = with_outcome outcome.Done (others outcome.Done replies)
+command_run number (Some called) [] others = nothing
+command_run number (Some called) (r ∷ replies) others =
+    let o = outcome_of called r in
+    with_call (call_of number called) (with_outcome o (if is_fault o then nothing else others o replies))
+
+abbrev pub run_from : ℕ → List ℕ → List Command → List Reply → Course
+run_from number values [] replies = nothing
+run_from number values (c ∷ commands) replies =
+    command_run number (op_of values c) replies (λ o others. run_from (number + 1) (assigned values c o) commands others)
+
+-- the run of a script with so many variables
+abbrev pub script_run : ℕ → List Command → List Reply → Course
+script_run variables commands replies = run_from 1 (replicate variables 0) commands replies
+
+-- each command has its outcome, or the run ended at a fault
+abbrev pub IsEnded : List Command → List Outcome → Type 0
+IsEnded commands outcomes = (length outcomes ≡ length commands) ⊎ IsTrue (list_any is_fault outcomes)
+
+-- A script with so many variables has run: by the last replies to its calls it has these outcomes and makes
+-- no other calls, it went to its end, and its calls stand in the journals.
+pub record IsScriptRun (pools caller variables : ℕ) (commands : List Command) (journals : List (List Entry)) (outcomes : List Outcome) : Type 0 where
+  pub answered : List (Call × List Reply)
+  pub ran : script_run variables commands (map (λ a. last_reply a.1) answered) ≡ record { calls = map (λ a. a.0) answered; outcomes = outcomes }
+  pub ended : IsEnded commands outcomes
+  pub stand : AreCalls pools caller answered journals
