@@ -1,0 +1,15 @@
+//! Frames of 4096 bytes, and shelves that hold them and lend their bytes. Only `Frame::zeroed` and
+//! `Shelf::new` take memory.
+#![tactic(auto)]
+
+mod bundle;
+mod frame;
+mod ranges;
+mod shelf;
+
+pub use bundle::Bundle;
+pub use frame::Frame;
+pub use shelf::Shelf;
+
+#[cfg(test)]
+mod tests;

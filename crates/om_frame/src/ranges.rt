@@ -1,0 +1,62 @@
+ghost use Rattle.std.specs.Prelude.{◌≡◌, ◌+◌, ◌<◌, ◌≤◌, ◌==◌, not, length, IfSome};
+ghost use Rattle.std.specs.List.{position_from};
+ghost use Rattle.om_frame.specs.Memory.{offset_at, filled, first_other, IsHeldPart};
+
+use crate::shelf::Shelf;
+use om_geom::Addr;
+
+impl Shelf {
+    /// Writes one byte to all of the `len` places from an address on, across pages.
+    pub fn fill(&mut self, at: Addr, len: u32, byte: u8)
+        requires { IsHeldPart self.old at.0 len }
+        ensures { self.new ≡ filled self.old at.0 len byte }
+    {
+        self.fits();
+        let mut done = 0;
+        while done < len {
+            let here = Addr(at.0 + u64::from(done));
+            let piece = piece_len(here, len - done);
+            self.part_mut(here, piece).fill(byte);
+            done += piece;
+        }
+    }
+
+    /// How far the first byte that differs stands from an address, among `len` bytes; none exactly where all are
+    /// equal to the one given.
+    pub fn all_equal(&self, at: Addr, len: u32, byte: u8) -> Option<u32>
+        requires { IsHeldPart self.now at.0 len }
+        ensures { result ≡ first_other self.now at.0 len byte }
+    {
+        self.fits();
+        let mut done = 0;
+        while done < len {
+            let here = Addr(at.0 + u64::from(done));
+            let piece = piece_len(here, len - done);
+            if let Some(offset) = first_other_in(self.part(here, piece), byte) {
+                return Some(done + offset as u32);
+            }
+            done += piece;
+        }
+        None
+    }
+}
+
+/// Where the first byte stands that isn't the one given.
+fn first_other_in(bytes: &[u8], byte: u8) -> Option<usize>
+    ensures value { result ≡ position_from (λ other. not (other == byte)) 0 bytes.now }
+    ensures within { IfSome result (λ offset. offset < length bytes.now) }
+{
+    bytes.iter().position(|other| *other != byte)
+}
+
+/// How many of `len` bytes from an address of the arena on are on its page.
+fn piece_len(at: Addr, len: u32) -> u32
+    requires arena { 65536 ≤ at.0 }
+    requires some { 0 < len }
+    ensures some { 0 < result }
+    ensures within { result ≤ len }
+    ensures one_page { offset_at at.0 + result ≤ 4096 }
+{
+    let left = 4096 - (at.0 - 65536) % 4096;
+    len.min(left as u32)
+}
