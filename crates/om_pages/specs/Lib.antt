@@ -1,0 +1,5 @@
+pub mod Kinds
+pub mod Tables
+pub mod FreeRuns
+pub mod TableLaws
+pub mod FreeRunLaws
