@@ -1,5 +1,4 @@
 use Rattle.std.proofs.Common.{ap, length, ◌∙◌, arith, refl}
-use Rattle.om_pages.specs.Kinds.{data_page}
 use Rattle.om_pages.specs.TableLaws.{length-with_run}
 use Rattle.om_pages.proofs.table.PageTable.set_block.Goals as goal
 
@@ -7,5 +6,5 @@ pub set_run-requires-then-guard-clause-there : goal.set_run-requires-then-guard-
 set_run-requires-then-guard-clause-there c page low high =
     let asked = rw c.if-guard.true at c.requires in
     let there = (asked page (omega arith) (omega arith)).0 in
-    let long = ap length c.set_run.ensures ∙ length-with_run c.args.self.now c.args.first.0 c.args.pages (data_page c.args.first.0 c.args.pages) in
+    let long = ap length c.set_run.ensures ∙ length-with_run _ _ _ _ in
     (omega arith, refl)

@@ -1,4 +1,4 @@
-use Rattle.std.proofs.Common.{◌≡◌, ℕ, List, Option, Some, refl}
+use Rattle.std.proofs.Common.{◌≡◌, ℕ, List, Option, Some, refl, arith}
 use Rattle.om_pages.specs.FreeRuns.{lowest_run}
 use Rattle.om_pages.specs.FreeRunLaws.{IsFreeRun, lowest_run-is_free, lowest_run-too_few}
 use Rattle.om_pages.specs.declared.kind.PageKind.{PageKind}
@@ -16,7 +16,7 @@ returns-then-n-self-clause-first c =
 pub set_run-requires-clause-there : goal.set_run-requires-clause-there
 set_run-requires-clause-there c page low high =
     let run = found _ _ _ _ _ _ c.deref.ensures.value c.self.view_is c.lowest_run.ensures c.in_ok-lowest_run.was in
-    ((run.free page low high).0, refl)
+    ((run.free page low (omega arith)).0, refl)
 
 pub returns-clause-free : goal.returns-clause-free
 returns-clause-free c =
