@@ -1,8 +1,7 @@
 -- What holds of each element of a list, and of each pair, where the list is filtered or gets one more.
-use Rattle.std.proofs.Common.{◌≡◌, ℕ, zero, suc, ◌+◌, ◌<◌, Bool, true, false, ◌||◌, nat_eq, nat_lt, List, [], ◌∷◌, ◌++◌, cond, Option, Some, None, slice_set, refl, ◌∙◌, subst, arith, eq-eqb}
+use Rattle.std.proofs.Common.{◌≡◌, ℕ, zero, suc, ◌+◌, ◌<◌, Bool, true, false, ◌||◌, List, [], ◌∷◌, ◌++◌, cond, Some, refl, subst, arith}
 use Rattle.std.specs.List.{list_any, filter, find, slice_get, range_with_len, AllByRecursion}
-use Rattle.std.proofs.lemmas.Bool.{cases_Bool, cases_lt, cases_eq, eqb-true, or_left, or_right, lt-ltb}
-use Rattle.std.proofs.lemmas.List.Folds.{list_any-append}
+use Rattle.std.proofs.lemmas.Bool.{cases_Bool, or_left}
 use mathlib.Core.Logic.{⊎_elim}
 use Rattle.om_model.specs.Pool.WellFormed.{EachPair}
 

@@ -1,25 +1,25 @@
 -- Free keeps states sound: a place moves from its block to a slot, and only a page that nothing touches is given
 -- up.
-use Rattle.std.proofs.Common.{◌≡◌, ℕ, zero, suc, ◌+◌, ◌*◌, Bool, true, false, not, ◌==◌, ◌<◌, if◌then◌else◌, nat_eq, nat_le, nat_lt, List, [], ◌∷◌, ◌++◌, length, length-set, map, Option, Some, None, IsSome, IsTrue, cond, slice_set, refl, sym, ap, ◌∙◌, subst, arith}
+use Rattle.std.proofs.Common.{◌≡◌, ℕ, zero, suc, ◌+◌, ◌*◌, Bool, true, false, not, ◌==◌, ◌<◌, if◌then◌else◌, nat_le, nat_lt, List, [], ◌∷◌, ◌++◌, length-set, map, Option, Some, None, IsSome, cond, slice_set, refl, sym, ap, ◌∙◌, subst, arith}
 use Rattle.std.specs.List.{filter, find, flat_map, AllByRecursion}
 use Rattle.std.specs.Option.{option_map}
-use Rattle.std.proofs.lemmas.Bool.{cases_Bool, eqb-true, eqb-false, ne_eqb, and_left, and_right, lt-leb, le-ltb, not-true, not_from_false, not_from_true, ltb-true, leb-true}
+use Rattle.std.proofs.lemmas.Bool.{cases_Bool, and_from, eqb-true, eqb-false, and_left, and_right, not-true, not_from_false, ltb-true, leb-true}
 use mathlib.Core.Logic.{⊎_elim}
 use Rattle.om_geom.specs.Addresses.{page_at}
 use Rattle.om_geom.specs.FitLaws.{find-passes}
 use Rattle.om_geom.specs.Numbers.{zone_pages}
 use Rattle.om_model.specs.Pool.Rules.{Rules, size_class}
 use Rattle.om_model.specs.Pool.Runs.{Run, is_page_of}
-use Rattle.om_model.specs.Pool.State.{State, delayed, drawn_more, holds, is_held, without_run, without_pages}
+use Rattle.om_model.specs.Pool.State.{State, delayed, drawn_more, holds, without_run, without_pages}
 use Rattle.om_model.specs.Pool.InUse.{Kind, Chunk, Pages, Guard, Use, use_of_place, uses_by_class, uses_of_block, uses, touches, begins_at, is_free_page, page_kind}
 use Rattle.om_model.specs.Pool.Picks.{starts_place}
-use Rattle.om_model.specs.Pool.Standing.{Standing, Unaligned, NotHeld, block_at, delayed_at, at_place, on_page}
-use Rattle.om_model.specs.Pool.Steps.{Step}
-use Rattle.om_model.specs.Pool.Free.{is_surplus, kept_or_let_go, evicted, without_block, drawn_slot, slot_of, put_off, delay, freed_again, free_at, free}
+use Rattle.om_model.specs.Pool.Standing.{Unaligned, NotHeld, block_at, delayed_at, at_place, on_page}
+use Rattle.om_model.specs.Pool.Free.{is_surplus, kept_or_let_go, evicted, drawn_slot, slot_of, into_slot, put_off, delay, freed_again, free_at, free}
 use Rattle.om_model.specs.Pool.WellFormed.{EachPair}
 use Rattle.om_model.specs.declared.block.Block.{Block}
 use Rattle.om_model.specs.declared.block.Place.{Place}
 use Rattle.om_model.proofs.Each.{all-weaker, all-both, all-append, all-first, all-second, all-filter, all-find, passes-filter, pairs-all, pairs-first, pairs-second, pairs-across, pairs-append, pairs-filter}
+use Rattle.om_model.proofs.Bytes.{gone-pages, gone-bytes, freed-sound}
 use Rattle.om_model.proofs.Held.{held-filter}
 use Rattle.om_model.proofs.Sound.{IsPlaced, Differ, Alike, AreSound, IsSound, first_of, placed-page, placed-kind, touches-placed}
 use Rattle.om_model.proofs.Places.{untouched-from_free}
@@ -72,6 +72,8 @@ let_go-sound rules state page free_is is =
       chunks = is.chunks;
       ascends = pairs-filter ◌<◌ kept state.held is.ascends;
       arena = all-filter (λ p. p < zone_pages * rules.zones) kept state.held is.arena;
+      pages = gone-pages state run refl ∙ is.pages;
+      bytes = gone-bytes state run refl is.bytes;
       sound = record {
         placed = all-both (λ one. page_at (first_of one) ≡ page → ⊥) (IsPlaced rules state.held) (IsPlaced rules (without_run run state.held)) used
             (λ one untouched on. record {
@@ -81,8 +83,8 @@ let_go-sound rules state page free_is is =
               is = on.is;
               below = on.below;
               one_is = on.one_is;
-              held_is = held-filter kept state.held on.page
-                  (not_from_false (is_page_of run on.page) (not_in_run page on.page (λ same. untouched (placed-page rules state.held one on ∙ same)))) on.held_is;
+              held_is = held-filter kept state.held on.page ∙ and_from _ _ on.held_is
+                  (not_from_false (is_page_of run on.page) (not_in_run page on.page (λ same. untouched (placed-page rules state.held one on ∙ same))));
               there = on.there;
             })
             (untouched-from_free rules state.held used sound.placed page free_is) sound.placed;
@@ -252,14 +254,16 @@ module _ (rules : Rules) (state : State) (address : ℕ) (is : IsSound rules sta
       let is_new : use_of_place (record { address = block.address; class = has.class }) ≡ new =
       ap (λ a. use_of_place (record { address = a; class = has.class })) here ∙ ap (λ c. use_of_place (record { address = address; class = c })) (sym same) in
       let Sound : List Use → Type 0 = λ xs. AreSound rules state.held (xs ++ waiting (slice_set state.slots slot (Some place))) in
-      evicted-sound rules (put_off (drawn_more 1 state) slot place) (slot_of state slot) (record {
+      evicted-sound rules (put_off rules (drawn_more 1 state) slot place) (slot_of state slot) (freed-sound rules (into_slot (drawn_more 1 state) slot place) (record {
         slots = length-set state.slots slot (Some place) ∙ is.slots;
         chunks = all-filter (λ b. IsSome (size_class rules b.size)) (is_elsewhere address) state.live is.chunks;
         ascends = is.ascends;
         arena = is.arena;
+        pages = is.pages;
+        bytes = is.bytes;
         sound = subst Sound (sym (flat-elsewhere rules address state.live is.chunks))
             (sound-delay rules state.held place live_uses state.slots slot (subst (IsPlaced rules state.held) is_new one.0) (subst (λ u. AllByRecursion (Differ u) old) is_new one.1) alike is.sound);
-      })
+      }) place)
 
   again-sound : IsSound rules ((freed_again rules state address).next)
   unfolding freed_again

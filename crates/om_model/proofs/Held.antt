@@ -1,13 +1,14 @@
 -- Held pages ascend. What holds of them stays where a run of pages comes in or goes.
-use Rattle.std.proofs.Common.{◌≡◌, ℕ, zero, suc, ◌+◌, ◌<◌, ◌≤◌, Bool, true, false, ◌||◌, nat_eq, nat_le, nat_lt, List, [], ◌∷◌, ◌++◌, cond, refl, ap, ◌∙◌, subst, arith, eq-eqb}
-use Rattle.std.specs.List.{list_any, filter, range_with_len, AllByRecursion}
-use Rattle.std.proofs.lemmas.Bool.{cases_Bool, cases_lt, eqb-true, leb-true, le-leb, or_left, or_right, ltb-true, lt-ltb}
+use Rattle.std.proofs.Common.{◌≡◌, ℕ, zero, suc, ◌+◌, ◌<◌, ◌≤◌, Bool, true, false, not, ◌&&◌, ◌||◌, nat_eq, nat_le, nat_lt, List, [], ◌∷◌, ◌++◌, cond, refl, sym, ap, ◌∙◌, arith, eq-eqb}
+use Rattle.std.specs.List.{filter, range_with_len, AllByRecursion}
+use Rattle.std.proofs.lemmas.Bool.{eqb-true, leb-true, or_left, or_right, ltb-true}
+use Rattle.std.proofs.lemmas.Bool.Decides.{nat_tests}
 use Rattle.std.proofs.lemmas.List.Folds.{list_any-append}
-use mathlib.Core.Logic.{⊎_elim}
+use Rattle.om_geom.specs.Fit.{is_in_run}
 use Rattle.om_model.specs.Pool.Runs.{Run, is_page_of}
 use Rattle.om_model.specs.Pool.State.{is_held, with_run, without_run}
 use Rattle.om_model.specs.Pool.WellFormed.{EachPair}
-use Rattle.om_model.proofs.Each.{all-weaker, all-both, all-append, all-filter, passes-filter, all-range, or_some, pairs-append, pairs-filter}
+use Rattle.om_model.proofs.Each.{all-weaker, all-append, all-filter, passes-filter, all-range, pairs-append, pairs-filter}
 
 -- each page is below those after it
 abbrev pub Ascends : List ℕ → Type 0
@@ -20,23 +21,33 @@ all-held (x ∷ xs) = (
   all-weaker (λ page. is_held xs page ≡ true) (λ page. is_held (x ∷ xs) page ≡ true) xs (λ page there. or_right _ _ there) (all-held xs),
 )
 
-held-cond : (here : Bool) (x : ℕ) (xs : List ℕ) (page : ℕ) → (here ≡ false → nat_eq page x ≡ false) → (nat_eq page x || is_held xs page) ≡ true → is_held (cond here (x ∷ xs) xs) page ≡ true
-held-cond true x xs page other there = there
-held-cond false x xs page other there = or_some _ _ (other refl) there
+and_false : (b : Bool) → (b && false) ≡ false
+and_false true = refl
+and_false false = refl
 
--- a held page that passes the test is held among those that pass
-pub held-filter : (test : ℕ → Bool) (held : List ℕ) (page : ℕ) → test page ≡ true → is_held held page ≡ true → is_held (filter test held) page ≡ true
-held-filter test [] page passes there = cc
-held-filter test (x ∷ xs) page passes there =
+held_step : (found rest within passes here : Bool) → (found ≡ true → here ≡ passes) → within ≡ (rest && passes) → cond here (found || within) within ≡ ((found || rest) && passes)
+held_step true rest within true here same ih = rw (same refl) refl
+held_step true rest within false here same ih = rw (same refl) (ih ∙ and_false rest)
+held_step false rest within passes true same ih = ih
+held_step false rest within passes false same ih = ih
+
+held-cond : (here : Bool) (x : ℕ) (xs : List ℕ) (page : ℕ) → is_held (cond here (x ∷ xs) xs) page ≡ cond here (nat_eq page x || is_held xs page) (is_held xs page)
+held-cond true x xs page = refl
+held-cond false x xs page = refl
+
+-- among the pages that pass the test are those that are held and pass
+pub held-filter : (test : ℕ → Bool) (held : List ℕ) (page : ℕ) → is_held (filter test held) page ≡ (is_held held page && test page)
+held-filter test [] page = refl
+held-filter test (x ∷ xs) page =
     held-cond (test x) x (filter test xs) page
-    (λ fails. ⊎_elim
-    (λ same. let x_is = eqb-true page x same in let P : ℕ → Type 0 = λ n. test n ≡ true in let now : test x ≡ true = subst P x_is passes in cc)
-    (λ other. other)
-    (cases_Bool (nat_eq page x)))
-    (⊎_elim
-    (λ same. or_left _ _ same)
-    (λ other. or_right _ _ (held-filter test xs page passes (or_some _ _ other there)))
-    (cases_Bool (nat_eq page x)))
+    ∙ held_step (nat_eq page x) (is_held xs page) (is_held (filter test xs) page) (test page) (test x)
+    (λ same. ap test (sym (eqb-true page x same)))
+    (held-filter test xs page)
+
+-- no page from a bound on is held where all held ones are below it
+pub held-below : (held : List ℕ) (bound page : ℕ) → AllByRecursion (λ p. p < bound) held → bound ≤ page → is_held held page ≡ false
+held-below [] bound page below past = refl
+held-below (x ∷ xs) bound page below past = let other : nat_eq page x ≡ false = grind (arith, nat_tests, below.0) in rw other (held-below xs bound page below.1 past)
 
 -- ---- runs of pages
 
@@ -50,12 +61,9 @@ ascends-range first zero = tt
 ascends-range first (suc count) =
     (all-weaker (λ page. first + 1 ≤ page) (λ page. first < page) (range_with_len (first + 1) count) (λ page later. omega arith) (all-from (first + 1) count), ascends-range (first + 1) count)
 
-held-range : (first count page : ℕ) → first ≤ page → page < first + count → is_held (range_with_len first count) page ≡ true
-held-range first zero page low high = absurd (omega arith)
-held-range first (suc count) page low high = ⊎_elim
-    (λ same. or_left _ _ same)
-    (λ other. or_right _ _ (held-range (first + 1) count page (let ne : page ≡ first → ⊥ = λ e. (let here = eq-eqb page first e in cc) in omega arith) (omega arith)))
-    (cases_Bool (nat_eq page first))
+held-range : (first count page : ℕ) → is_held (range_with_len first count) page ≡ is_in_run first count page
+held-range first zero page = grind (arith, nat_tests)
+held-range first (suc count) page = let rest = held-range (first + 1) count page in rw rest (grind (arith, nat_tests))
 
 module _ (run : Run) (held : List ℕ) where
   abbrev below : List ℕ
@@ -64,24 +72,29 @@ module _ (run : Run) (held : List ℕ) where
   abbrev above : List ℕ
   above = filter (λ page. nat_le (run.first + run.count) page) held
 
-  -- a page of any of the three parts is held with the run
-  held-parts : (page : ℕ) → ((is_held below page || is_held (range_with_len run.first run.count) page) || is_held above page) ≡ true → is_held (with_run run held) page ≡ true
-  held-parts page some =
-      list_any-append (nat_eq page) (below ++ range_with_len run.first run.count) above
-      ∙ ap (λ b. b || is_held above page) (list_any-append (nat_eq page) below (range_with_len run.first run.count))
-      ∙ some
+  with_parts : (h : Bool) (page : ℕ) → (((h && nat_lt page run.first) || is_page_of run page) || (h && nat_le (run.first + run.count) page)) ≡ (h || is_page_of run page)
+  with_parts true page = grind (arith, nat_tests)
+  with_parts false page = grind (arith, nat_tests)
+
+  pub held-with_run : (page : ℕ) → is_held (with_run run held) page ≡ (is_held held page || is_page_of run page)
+  held-with_run page =
+      let pages = range_with_len run.first run.count in
+      list_any-append (nat_eq page) (below ++ pages) above
+      ∙ ap (λ b. b || is_held above page) (list_any-append (nat_eq page) below pages)
+      ∙ ap (λ b. (b || is_held pages page) || is_held above page) (held-filter (λ p. nat_lt p run.first) held page)
+      ∙ ap (λ b. ((is_held held page && nat_lt page run.first) || b) || is_held above page) (held-range run.first run.count page)
+      ∙ ap (λ b. ((is_held held page && nat_lt page run.first) || is_page_of run page) || b) (held-filter (λ p. nat_le (run.first + run.count) p) held page)
+      ∙ with_parts (is_held held page) page
+
+  pub held-without_run : (page : ℕ) → is_held (without_run run held) page ≡ (is_held held page && not (is_page_of run page))
+  held-without_run page = held-filter (λ p. not (is_page_of run p)) held page
+
+  -- pages that were held stay so, and those of the run are held too
+  pub held-still : (page : ℕ) → is_held held page ≡ true → is_held (with_run run held) page ≡ true
+  held-still page there = held-with_run page ∙ or_left _ _ there
 
   pub held-in_run : (page : ℕ) → run.first ≤ page → page < run.first + run.count → is_held (with_run run held) page ≡ true
-  held-in_run page low high = held-parts page (or_left _ _ (or_right _ _ (held-range run.first run.count page low high)))
-
-  pub held-with_run : (page : ℕ) → is_held held page ≡ true → is_held (with_run run held) page ≡ true
-  held-with_run page there = ⊎_elim
-      (λ low. held-parts page (or_left _ _ (or_left _ _ (held-filter (λ p. nat_lt p run.first) held page (lt-ltb page run.first low) there))))
-      (λ from. ⊎_elim
-      (λ inside. held-in_run page from inside)
-      (λ high. held-parts page (or_right _ _ (held-filter (λ p. nat_le (run.first + run.count) p) held page (le-leb (run.first + run.count) page high) there)))
-      (cases_lt page (run.first + run.count)))
-      (cases_lt page run.first)
+  held-in_run page low high = let inside : is_page_of run page ≡ true = grind (arith, nat_tests) in held-with_run page ∙ or_right _ _ inside
 
   pub all-with_run : (P : ℕ → Type 0) → ((page : ℕ) → page < run.first + run.count → P page) → AllByRecursion P held → AllByRecursion P (with_run run held)
   all-with_run P inside all =

@@ -15,7 +15,7 @@ state_from-push rules state [] entry = refl
 state_from-push rules state (first ∷ entries) entry = state_from-push rules (after rules state first) entries entry
 
 pub state_of-push : (rules : Rules) (entries : List Entry) (entry : Entry) → state_of rules (entries ++ entry ∷ []) ≡ after rules (state_of rules entries) entry
-state_of-push rules entries entry = state_from-push rules opening entries entry
+state_of-push rules entries entry = state_from-push rules (opening rules) entries entry
 
 pub IsLawfulFrom-push : (rules : Rules) (state : State) (entries : List Entry) (entry : Entry) → IsLawfulFrom rules state entries → IsLawfulEntry rules (state_from rules state entries) entry → IsLawfulFrom rules state (entries ++ entry ∷ [])
 IsLawfulFrom-push rules state [] entry lawful next = (next, tt)
@@ -26,7 +26,7 @@ phase_numbers-push entries entry = flat_map-append phases_in entries (Call entry
 
 pub IsLawful-push : (rules : Rules) (entries : List Entry) (entry : CallEntry) → IsLawful rules entries → IsLawfulCall rules (state_of rules entries) entry → IsLawful rules (entries ++ Call entry ∷ [])
 IsLawful-push rules entries entry lawful next = record {
-  calls = IsLawfulFrom-push rules opening entries (Call entry) lawful.calls next;
+  calls = IsLawfulFrom-push rules (opening rules) entries (Call entry) lawful.calls next;
   phases = rw (phase_numbers-push entries entry) lawful.phases;
 }
 

@@ -1,18 +1,20 @@
 -- At each place of a lawful journal the state is sound, and so well formed.
-use Rattle.std.proofs.Common.{◌≡◌, ℕ, Bool, true, false, not, ◌==◌, if◌then◌else◌, List, [], ◌∷◌, ◌++◌, Option, Some, None, refl, subst, append-nil, sym}
+use Rattle.std.proofs.Common.{◌≡◌, ℕ, Bool, true, false, if◌then◌else◌, List, [], ◌∷◌, ◌++◌, Option, Some, None, refl, subst, append-nil, sym}
 use Rattle.std.specs.Option.{is_some}
-use Rattle.std.proofs.lemmas.Bool.{and_parts}
 use Rattle.om_model.specs.Pool.Rules.{Rules, size_class}
 use Rattle.om_model.specs.Pool.State.{State, opening}
 use Rattle.om_model.specs.Pool.Steps.{Nothing, Answers}
 use Rattle.om_model.specs.Pool.Malloc.{malloc_wish, malloc}
 use Rattle.om_model.specs.Pool.Journal.{is_served, wish_of, step_of, MayAnswer, next_of, after, state_from, state_of, IsLawfulFrom, IsLawful, IsLawfulEntry, answers_of}
+use Rattle.om_model.specs.Pool.Access.{barred, load_unless, store_unless}
 use Rattle.om_model.specs.Pool.WellFormed.{IsWellFormed}
 use Rattle.om_model.specs.declared.entry.Entry.{Entry}
 use Rattle.om_model.specs.declared.entry.Entry.TheVariants.{Call, Phase}
 use Rattle.om_model.specs.declared.operation.Op.{Op}
+use Rattle.om_model.specs.declared.reply.Reply.{Reply}
 use Rattle.om_model.specs.declared.operation.Op.TheVariants.{Malloc, Calloc, Realloc, Reallocarray, Free, Load, Store}
 use Rattle.om_model.proofs.Sound.{IsSound, well-formed}
+use Rattle.om_model.proofs.Bytes.{opening-pages, opening-bytes, written-sound}
 use Rattle.om_model.proofs.Malloc.{malloc-sound}
 use Rattle.om_model.proofs.Free.{free-sound}
 
@@ -29,9 +31,17 @@ served-sound : (rules : Rules) (state : State) (size site : ℕ) (answers : Answ
     → MayAnswer rules state (if served then malloc_wish rules state size else Nothing) answers → IsSound rules state
     → IsSound rules (next_of state (if served then Some (malloc rules state size site answers.claim) else None))
 served-sound rules state size site answers true served may is =
-    let has = has-class (size_class rules size) (and_parts (not (size == 0)) (is_some (size_class rules size)) served).1 in
+    let has = has-class (size_class rules size) served in
     malloc-sound rules size has.class has.is state site answers may is
 served-sound rules state size site answers false served may is = is
+
+load-sound : (rules : Rules) (state : State) (address : ℕ) (bar : Option Reply) → IsSound rules state → IsSound rules ((load_unless state address bar).next)
+load-sound rules state address (Some reply) is = is
+load-sound rules state address None is = is
+
+store-sound : (rules : Rules) (state : State) (address byte : ℕ) (bar : Option Reply) → IsSound rules state → IsSound rules ((store_unless state address byte bar).next)
+store-sound rules state address byte (Some reply) is = is
+store-sound rules state address byte None is = written-sound rules state is address byte
 
 -- operations that have no step leave the state as it is
 op-sound : (rules : Rules) (state : State) (op : Op) (answers : Answers) → MayAnswer rules state (wish_of rules state op) answers → IsSound rules state → IsSound rules (next_of state (step_of rules state op answers))
@@ -40,8 +50,8 @@ op-sound rules state (Free address) answers may is = free-sound rules state addr
 op-sound rules state (Calloc count size site) answers may is = is
 op-sound rules state (Realloc address size site) answers may is = is
 op-sound rules state (Reallocarray address count size site) answers may is = is
-op-sound rules state (Load address) answers may is = is
-op-sound rules state (Store address byte) answers may is = is
+op-sound rules state (Load address) answers may is = load-sound rules state address (barred rules state address) is
+op-sound rules state (Store address byte) answers may is = store-sound rules state address byte (barred rules state address) is
 
 entry-sound : (rules : Rules) (state : State) (entry : Entry) → IsLawfulEntry rules state entry → IsSound rules state → IsSound rules (after rules state entry)
 entry-sound rules state (Call entry) lawful is = op-sound rules state entry.op (answers_of entry) lawful.zones is
@@ -51,17 +61,19 @@ from-sound : (rules : Rules) (state : State) (before rest : List Entry) → IsLa
 from-sound rules state [] rest lawful is = is
 from-sound rules state (entry ∷ before) rest lawful is = from-sound rules (after rules state entry) before rest lawful.1 (entry-sound rules state entry lawful.0 is)
 
-opening-sound : (rules : Rules) → IsSound rules opening
+opening-sound : (rules : Rules) → IsSound rules (opening rules)
 opening-sound rules = record {
   slots = refl;
   chunks = tt;
   ascends = tt;
   arena = tt;
+  pages = opening-pages rules;
+  bytes = opening-bytes rules;
   sound = record { placed = tt; differ = tt; alike = tt };
 }
 
 before-sound : (rules : Rules) (before rest : List Entry) → IsLawful rules (before ++ rest) → IsSound rules (state_of rules before)
-before-sound rules before rest lawful = from-sound rules opening before rest lawful.calls (opening-sound rules)
+before-sound rules before rest lawful = from-sound rules (opening rules) before rest lawful.calls (opening-sound rules)
 
 -- the state that a lawful journal leaves
 pub lawful-sound : (rules : Rules) (entries : List Entry) → IsLawful rules entries → IsSound rules (state_of rules entries)

@@ -1,3 +1,5 @@
+pub mod Bytes
+pub mod Denied
 pub mod Each
 pub mod Free
 pub mod Held
@@ -11,6 +13,7 @@ pub mod Places
 pub mod PlainCalls
 pub mod PlainExtents
 pub mod PlainJournals
+pub mod PlainMemory
 pub mod PlainText
 pub mod PlainValues
 pub mod Sound

@@ -1,5 +1,5 @@
 -- Allocation keeps states sound: the picked place is one that nothing in use has, on a page of its class.
-use Rattle.std.proofs.Common.{◌≡◌, ℕ, ◌+◌, ◌*◌, ◌/◌, ◌<◌, Bool, true, false, ◌&&◌, if◌then◌else◌, nat_eq, nat_lt, List, [], ◌∷◌, ◌++◌, length, map, Option, Some, None, IsSome, unwrap_or, refl, sym, ap, ◌∙◌, subst, arith}
+use Rattle.std.proofs.Common.{◌≡◌, ℕ, ◌+◌, ◌*◌, ◌/◌, ◌<◌, true, false, ◌&&◌, if◌then◌else◌, nat_lt, List, [], ◌∷◌, ◌++◌, length, map, Option, Some, None, IsSome, unwrap_or, refl, sym, ap, ◌∙◌, subst, arith}
 use Rattle.std.specs.List.{flat_map, AllByRecursion}
 use Rattle.std.specs.Option.{is_none}
 use Rattle.std.proofs.lemmas.Bool.{true≢false}
@@ -9,18 +9,19 @@ use Rattle.om_geom.specs.Addresses.{page_at}
 use Rattle.om_geom.specs.ClassLaws.{class_of-is_class}
 use Rattle.om_geom.specs.Numbers.{zone_pages}
 use Rattle.om_model.specs.Pool.Rules.{Rules, word_at, size_class, block_pages}
-use Rattle.om_model.specs.Pool.Runs.{Run, run_of}
-use Rattle.om_model.specs.Pool.State.{State, delayed, drawn_more, is_held, with_run}
+use Rattle.om_model.specs.Pool.Runs.{run_of}
+use Rattle.om_model.specs.Pool.State.{State, delayed, drawn_more, is_held, with_run, with_pages}
 use Rattle.om_model.specs.Pool.InUse.{Use, use_of_place, uses_by_class, uses_of_block, uses}
 use Rattle.om_model.specs.Pool.Picks.{own_page, picked_place, place_address}
-use Rattle.om_model.specs.Pool.Steps.{Wish, Nothing, Search, Answers, Step, unchanged, null_or_fault}
-use Rattle.om_model.specs.Pool.Malloc.{pages_by_class, words_by_class, words_for, is_too_large, page_by_class, page_for, search_unless, placing_wish, address_on, placed_on, placed_by_claim, placed_where, placing, malloc_wish, block_placed, malloc}
+use Rattle.om_model.specs.Pool.Steps.{Wish, Nothing, Answers, Step, unchanged, null_or_fault}
+use Rattle.om_model.specs.Pool.Malloc.{pages_by_class, words_by_class, words_for, is_too_large, page_by_class, page_for, search_unless, placing_wish, with_block, address_on, placed_on, placed_by_claim, placed_where, placing, malloc_wish, block_placed, malloc}
 use Rattle.om_model.specs.Pool.Journal.{IsFound, EndsSearch, MayAnswer}
 use Rattle.om_model.specs.declared.block.Block.{Block}
 use Rattle.om_model.specs.declared.entry.Move.{Move}
 use Rattle.om_model.specs.declared.reply.Why.TheVariants.{TooLarge}
 use Rattle.om_model.proofs.Each.{all-weaker, all-append, all-insert, pairs-insert}
-use Rattle.om_model.proofs.Held.{Ascends, held-in_run, held-with_run, all-with_run, ascends-with_run}
+use Rattle.om_model.proofs.Held.{held-in_run, held-still, all-with_run, ascends-with_run}
+use Rattle.om_model.proofs.Bytes.{come-pages, come-bytes, fresh-sound}
 use Rattle.om_model.proofs.Sound.{IsPlaced, Differ, Alike, AreSound, IsSound, first_of, place_of, placed-page}
 use Rattle.om_model.proofs.Places.{IsUntouched, Serves, serves-untouched, serves-own, picked, picked-placed, picked-differs, picked-alike}
 
@@ -34,7 +35,7 @@ sound-insert rules held new xs ys here differ alike sound = record {
 
 -- more words drawn change nothing that is in use
 pub drawn_more-sound : (rules : Rules) (count : ℕ) (state : State) → IsSound rules state → IsSound rules (drawn_more count state)
-drawn_more-sound rules count state is = record { slots = is.slots; chunks = is.chunks; ascends = is.ascends; arena = is.arena; sound = is.sound }
+drawn_more-sound rules count state is = record { slots = is.slots; chunks = is.chunks; ascends = is.ascends; arena = is.arena; pages = is.pages; bytes = is.bytes; sound = is.sound }
 
 module _ (rules : Rules) (size class : ℕ) (class_is : size_class rules size ≡ Some class) where
   -- ---- a block with a class is a chunk
@@ -81,18 +82,20 @@ module _ (rules : Rules) (size class : ℕ) (class_is : size_class rules size �
       let Sound : List Use → Type 0 = λ xs. AreSound rules state.held (xs ++ waiting) in
       let Has : Option ℕ → Type 0 = λ found. IsSome found in
       let use_is : uses_of_block rules block ≡ new ∷ [] = chunk-uses address site ∙ ap (λ a. use_of_place (record { address = a; class = class }) ∷ []) (chunk-address state page word) in
-      record {
+      fresh-sound rules (with_block block state) (record {
         slots = is.slots;
         chunks = all-append (λ b. IsSome (size_class rules b.size)) state.live (block ∷ []) is.chunks (subst Has (sym class_is) refl, tt);
         ascends = is.ascends;
         arena = is.arena;
+        pages = is.pages;
+        bytes = is.bytes;
         sound = subst Sound (sym (flat_map-append (uses_of_block rules) state.live (block ∷ []) ∙ ap (λ more. live ++ (more ++ [])) use_is))
             (sound-insert rules state.held new live waiting
             (picked-placed rules state.held used page class index is_one serves pick)
             (picked-differs rules state.held used page class index is_one serves pick)
             (picked-alike rules state.held used page class index is_one serves pick)
             is.sound);
-      }
+      }) block
 
   -- a page that isn't held is touched by nothing
   untouched-new : (held : List ℕ) (used : List Use) (page : ℕ) → (is_held held page ≡ true → ⊥) → AllByRecursion (IsPlaced rules held) used → IsUntouched used page
@@ -118,18 +121,20 @@ module _ (rules : Rules) (size class : ℕ) (class_is : size_class rules size �
       let used = uses rules state in
       let more = with_run run state.held in
       let sound = is.sound in
-      let wide : IsSound rules (record state { held = more }) = record {
+      let wide : IsSound rules (with_pages run state) = record {
         slots = is.slots;
         chunks = is.chunks;
         ascends = ascends-with_run run state.held is.ascends;
         arena = all-with_run run state.held (λ p. p < zone_pages * rules.zones) (λ page low. omega arith) is.arena;
-        sound = sound-held state.held more used (λ other on. held-with_run run state.held other on) is.sound;
+        pages = come-pages state run one ∙ is.pages;
+        bytes = come-bytes state run one is.bytes (omega (arith, is.pages));
+        sound = sound-held state.held more used (λ other on. held-still run state.held other on) is.sound;
       } in
       let wider = wide.sound in
       let untouched = untouched-new state.held used run.first new sound.placed in
       let serves = serves-untouched rules more used wider.placed run.first class (class_of-is_class size rules.options.canary class class_is)
       (held-in_run run state.held run.first (omega arith) (omega arith)) there untouched in
-      placed-sound (record state { held = more }) run.first word site serves wide
+      placed-sound (with_pages run state) run.first word site serves wide
 
   found-new : (state : State) (word passed : ℕ) (move : Move) → IsFound rules state 1 word passed move → is_held state.held (run_of move).first ≡ true → ⊥
   found-new state word passed move found there =

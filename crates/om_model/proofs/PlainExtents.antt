@@ -1,15 +1,19 @@
 -- Extents: where they share a byte or a page, and the bytes of one. And what a well-formed state is made of.
-use Rattle.std.proofs.Common.{◌≡◌, ℕ, ◌+◌, ◌-◌, ◌/◌, ◌<◌, ◌≤◌, ◌*◌, ◌^◌, Bool, true, false, not, ◌&&◌, ◌||◌, nat_le, nat_lt, List, [], ◌∷◌, length, IsSome, IsTrue, ◌↔◌, refl, sym, ap, ◌∙◌, arith}
+use Rattle.std.proofs.Common.{◌≡◌, ℕ, ◌+◌, ◌-◌, ◌<◌, ◌≤◌, ◌*◌, ◌^◌, Bool, true, false, not, ◌&&◌, ◌||◌, nat_le, nat_lt, [], ◌∷◌, length, IsSome, IsTrue, ◌↔◌, refl, sym, ap, ◌∙◌, arith}
 use Rattle.std.specs.List.{AllByRecursion, list_all}
-use Rattle.std.proofs.lemmas.Bool.{ltb-true}
+use Rattle.std.proofs.lemmas.Bool.{ltb-true, cases_lt}
+use Rattle.std.proofs.lemmas.List.{get_or_past}
+use mathlib.Core.Logic.{⊎_elim}
+use Rattle.om_model.proofs.Held.{held-below}
 use Rattle.om_geom.specs.Addresses.{Covers, SharesByte, shares_byte, address_of, page_at}
+use Rattle.om_geom.specs.Classes.{is_class}
 use Rattle.om_geom.specs.Numbers.{zone_pages, first_address}
 use Rattle.om_geom.specs.AddressLaws.{SharesByte-true, shares_byte-from}
 use Rattle.om_geom.specs.declared.address.Extent.{Extent}
 use Rattle.om_model.specs.Pool.InUse.{Use, uses, touches}
 use Rattle.om_model.specs.Pool.Rules.{Rules, size_class}
-use Rattle.om_model.specs.Pool.State.{State, slot_count, holds, is_held}
-use Rattle.om_model.specs.Pool.WellFormed.{EachPair, AreAlike, AreApart, AgreeOnPages, BeginsRight, LiesOn, IsWellFormed}
+use Rattle.om_model.specs.Pool.State.{State, slot_count, delayed, holds, is_held}
+use Rattle.om_model.specs.Pool.WellFormed.{EachPair, AreAlike, AreApart, AgreeOnPages, BeginsRight, HasBytes, LiesOn, IsWellFormed}
 
 pub apart-decided : (a b : Extent) (shares : Bool) → shares ≡ shares_byte a b → IsTrue (not shares) ↔ (SharesByte a b → ⊥)
 apart-decided a b true is = ((λ e. cc), (λ apart. absurd (apart (SharesByte-true a b (sym is)))))
@@ -44,18 +48,30 @@ far-byte rules state byte few far = outside (nat_lt byte (address_of (zone_pages
     outside false true held isnt = refl
     outside false false held isnt = refl
 
+-- pages of the arena alone are held, so a page behind memory has no bytes
+pub bytes-decided : (state : State) → AllByRecursion (λ page. page < length state.memory) state.held → ((page : ℕ) → page < length state.memory → HasBytes state page) → (page : ℕ) → HasBytes state page
+bytes-decided state below each page = ⊎_elim
+    (each page)
+    (λ past. rw (get_or_past state.memory page [] past, held-below state.held (length state.memory) page below past) refl)
+    (cases_lt page (length state.memory))
+
 -- the parts of a well-formed state, each decided by a test
-pub well-formed-decided : (rules : Rules) (state : State) (held chunks placed lie : Bool) → length state.slots ≡ slot_count
-    → IsTrue held ↔ (EachPair (λ page other. page < other) state.held × AllByRecursion (λ page. page < zone_pages * rules.zones) state.held)
+pub well-formed-decided : (rules : Rules) (state : State) (held bytes classes chunks placed lie : Bool) → length state.slots ≡ slot_count
+    → IsTrue held ↔ EachPair (λ page other. page < other) state.held
+    → IsTrue bytes ↔ (AllByRecursion (λ page. page < zone_pages * rules.zones) state.held × (length state.memory ≡ zone_pages * rules.zones) × ((page : ℕ) → HasBytes state page))
+    → IsTrue classes ↔ AllByRecursion (λ place. IsTrue (is_class place.class)) (delayed state.slots)
     → IsTrue chunks ↔ AllByRecursion (λ block. IsSome (size_class rules block.size)) state.live
     → IsTrue placed ↔ (AllByRecursion (λ one. BeginsRight (one.extent).first one.kind) (uses rules state) × EachPair AreApart (uses rules state) × EachPair AgreeOnPages (uses rules state))
     → IsTrue lie ↔ AllByRecursion (LiesOn rules state) (uses rules state)
-    → IsTrue (list_all (λ test. test) (held ∷ chunks ∷ placed ∷ lie ∷ [])) ↔ IsWellFormed rules state
-well-formed-decided rules state true true true true slots a b c d = (
+    → IsTrue (list_all (λ test. test) (held ∷ bytes ∷ classes ∷ chunks ∷ placed ∷ lie ∷ [])) ↔ IsWellFormed rules state
+well-formed-decided rules state true true true true true true slots a m k b c d = (
   (λ e. record {
-    ascend = (a.0 refl).0;
-    arena = (a.0 refl).1;
+    ascend = a.0 refl;
+    arena = (m.0 refl).0;
+    pages = (m.0 refl).1;
+    bytes = (m.0 refl).2;
     slots = slots;
+    classes = k.0 refl;
     chunks = b.0 refl;
     begin = (c.0 refl).0;
     apart = (c.0 refl).1;
@@ -64,7 +80,9 @@ well-formed-decided rules state true true true true slots a b c d = (
   }),
   (λ is. refl),
 )
-well-formed-decided rules state false chunks placed lie slots a b c d = ((λ e. cc), (λ is. a.1 (is.ascend, is.arena)))
-well-formed-decided rules state true false placed lie slots a b c d = ((λ e. cc), (λ is. b.1 is.chunks))
-well-formed-decided rules state true true false lie slots a b c d = ((λ e. cc), (λ is. c.1 (is.begin, is.apart, is.alike)))
-well-formed-decided rules state true true true false slots a b c d = ((λ e. cc), (λ is. d.1 is.on_held))
+well-formed-decided rules state false bytes classes chunks placed lie slots a m k b c d = ((λ e. cc), (λ is. a.1 is.ascend))
+well-formed-decided rules state true false classes chunks placed lie slots a m k b c d = ((λ e. cc), (λ is. m.1 (is.arena, is.pages, is.bytes)))
+well-formed-decided rules state true true false chunks placed lie slots a m k b c d = ((λ e. cc), (λ is. k.1 is.classes))
+well-formed-decided rules state true true true false placed lie slots a m k b c d = ((λ e. cc), (λ is. b.1 is.chunks))
+well-formed-decided rules state true true true true false lie slots a m k b c d = ((λ e. cc), (λ is. c.1 (is.begin, is.apart, is.alike)))
+well-formed-decided rules state true true true true true false slots a m k b c d = ((λ e. cc), (λ is. d.1 is.on_held))

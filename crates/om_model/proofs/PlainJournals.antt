@@ -1,11 +1,9 @@
 -- A journal followed call by call: a call is lawful where the zones may answer so and the entry agrees with the
 -- step, and a journal where each entry is.
-use Rattle.std.proofs.Common.{◌≡◌, ℕ, zero, suc, ◌+◌, ◌*◌, ◌<◌, ◌≤◌, ◌%◌, ◌/◌, List, [], ◌∷◌, take, drop, length, Option, Some, None, IsSomeAnd, refl, sym, ap, subst, arith}
+use Rattle.std.proofs.Common.{◌≡◌, ℕ, zero, suc, ◌+◌, ◌≤◌, List, [], ◌∷◌, take, drop, length, Option, Some, None, IsSomeAnd, refl, sym, ap, subst, arith}
 use Rattle.std.specs.List.{slice_get}
-use Rattle.om_geom.specs.Fit.{searched_zone}
 use Rattle.om_model.specs.Data.CallEntry.{CallEntry}
 use Rattle.om_model.specs.Pool.Rules.{Rules}
-use Rattle.om_model.specs.Pool.Runs.{run_of}
 use Rattle.om_model.specs.Pool.State.{State}
 use Rattle.om_model.specs.Pool.Steps as steps
 use Rattle.om_model.specs.Pool.Steps.{Answers, Step}

@@ -11,7 +11,6 @@ use Rattle.om_model.specs.Output.Text.{head_lines, pool_lines, board_lines, outc
 use Rattle.om_model.specs.Scripts.Outcomes.{is_fault}
 use Rattle.om_model.specs.declared.board.BoardEntry.{BoardEntry}
 use Rattle.om_model.specs.declared.entry.Entry.{Entry}
-use Rattle.om_model.specs.declared.reply.Outcome.{Outcome}
 use Rattle.om_model.proofs.Lists.{flat_map_next, slice_get-enumerate_from}
 
 -- the text of one item more

@@ -1,7 +1,7 @@
 -- What each call keeps, and by which a state is well formed: each thing in use is one of a held page's places,
 -- no two begin at one address, and those of a page are of one class. Held pages ascend and lie in the arena.
-use Rattle.std.proofs.Common.{◌≡◌, ℕ, ◌+◌, ◌-◌, ◌*◌, ◌/◌, ◌%◌, ◌<◌, ◌≤◌, true, nat_eq, eq-eqb, List, [], ◌∷◌, length, IsSome, IsTrue, refl, sym, ap, ◌∙◌, subst, arith}
-use Rattle.std.specs.List.{AllByRecursion}
+use Rattle.std.proofs.Common.{◌≡◌, ℕ, ◌+◌, ◌-◌, ◌*◌, ◌/◌, ◌%◌, ◌<◌, ◌≤◌, true, nat_eq, eq-eqb, List, [], ◌∷◌, length, map, IsSome, IsTrue, refl, sym, ap, ◌∙◌, subst, arith}
+use Rattle.std.specs.List.{flat_map, AllByRecursion}
 use Rattle.std.proofs.lemmas.Bool.{cases_lt, cases_eq, and_from, eqb-true, le-leb, lt-ltb}
 use Rattle.std.proofs.Math.Nat.{add-sub_cancel_left, mul-le-mul_right, mul-mod_left, mul-div_cancel}
 use mathlib.Core.Logic.{⊎_elim}
@@ -11,11 +11,11 @@ use Rattle.om_geom.specs.Classes.{is_class, stride_of, places_of}
 use Rattle.om_geom.specs.ClassLaws.{place-within, stride-at_least_16}
 use Rattle.om_geom.specs.Numbers.{zone_pages}
 use Rattle.om_model.specs.Pool.Rules.{Rules, size_class}
-use Rattle.om_model.specs.Pool.State.{State, slot_count, is_held}
-use Rattle.om_model.specs.Pool.InUse.{Chunk, Use, use_of_place, uses, touches}
+use Rattle.om_model.specs.Pool.State.{State, slot_count, delayed, is_held}
+use Rattle.om_model.specs.Pool.InUse.{Chunk, Use, use_of_place, uses_of_block, uses, touches}
 use Rattle.om_model.specs.Pool.Picks.{place_address, starts_place}
-use Rattle.om_model.specs.Pool.WellFormed.{EachPair, BeginsRight, AreApart, AreAlike, AgreeOnPages, LiesOn, IsWellFormed}
-use Rattle.om_model.proofs.Each.{all-weaker, all-both}
+use Rattle.om_model.specs.Pool.WellFormed.{EachPair, BeginsRight, AreApart, AgreeOnPages, HasBytes, LiesOn, IsWellFormed}
+use Rattle.om_model.proofs.Each.{all-weaker, all-both, all-second}
 use Rattle.om_model.proofs.Held.{Ascends}
 use Rattle.om_model.specs.declared.block.Place.{Place}
 
@@ -54,6 +54,8 @@ pub record IsSound (rules : Rules) (state : State) : Type 0 where
   pub chunks : AllByRecursion (λ block. IsSome (size_class rules block.size)) state.live
   pub ascends : Ascends state.held
   pub arena : AllByRecursion (λ page. page < zone_pages * rules.zones) state.held
+  pub pages : length state.memory ≡ zone_pages * rules.zones
+  pub bytes : (page : ℕ) → HasBytes state page
   pub sound : AreSound rules state.held (uses rules state)
 
 -- ---- a place and its page
@@ -156,6 +158,14 @@ pairs-both : (R S T : Use → Use → Type 0) → ((a b : Use) → R a b → S a
 pairs-both R S T step [] first second = tt
 pairs-both R S T step (x ∷ xs) first second = (all-both (R x) (S x) (T x) xs (λ y. step x y) first.0 second.0, pairs-both R S T step xs first.1 second.1)
 
+-- a place that is placed is of a class
+classes-of : (rules : Rules) (held : List ℕ) (places : List Place) → AllByRecursion (IsPlaced rules held) (map use_of_place places) → AllByRecursion (λ place. IsTrue (is_class place.class)) places
+classes-of rules held [] placed = tt
+classes-of rules held (place ∷ places) placed =
+    let on = placed.0 in
+    let Is : ℕ → Type 0 = λ class. IsTrue (is_class class) in
+    (subst Is (same_class on.class place.class (sym (placed-kind rules held (use_of_place place) on))) on.is, classes-of rules held places placed.1)
+
 pub well-formed : (rules : Rules) (state : State) → IsSound rules state → IsWellFormed rules state
 well-formed rules state is =
     let used = uses rules state in
@@ -164,7 +174,10 @@ well-formed rules state is =
     record {
       ascend = is.ascends;
       arena = is.arena;
+      pages = is.pages;
+      bytes = is.bytes;
       slots = is.slots;
+      classes = classes-of rules state.held (delayed state.slots) (all-second (IsPlaced rules state.held) (flat_map (uses_of_block rules) state.live) (map use_of_place (delayed state.slots)) sound.placed);
       chunks = is.chunks;
       begin = all-weaker (IsPlaced rules state.held) (λ one. BeginsRight (first_of one) one.kind) used (placed-begins rules state.held) sound.placed;
       apart = pairs-placed rules state.held Both AreApart (λ a b first second both. apart-placed rules state.held a b first second both.0 both.1) used sound.placed

@@ -3,9 +3,11 @@ pub mod Runs
 pub mod State
 pub mod InUse
 pub mod Picks
+pub mod Junk
 pub mod Steps
 pub mod Malloc
 pub mod Standing
+pub mod Access
 pub mod Free
 pub mod Journal
 pub mod WellFormed

@@ -1,6 +1,7 @@
 -- What the plain forms of slow hold, in the terms of the definitions.
 use Rattle.std.specs.Prelude.{ℕ, ◌+◌, ◌%◌, ◌^◌, ◌<◌, ◌==◌, List, [], ◌∷◌, map, Option, IfSome, slice_index_or, if◌then◌else◌}
 use Rattle.std.specs.List.{flat_map, range_with_len}
+use Rattle.om_model.specs.Pool.Access as access
 use Rattle.om_model.specs.Pool.InUse as used
 use Rattle.om_model.specs.Pool.Runs as runs
 use Rattle.om_model.specs.Pool.Standing as stands
@@ -11,6 +12,8 @@ use Rattle.om_model.specs.declared.entry.Entry.{Entry}
 use Rattle.om_model.specs.declared.entry.Move.{Move}
 use Rattle.om_model.specs.declared.operation.Call.{Call}
 use Rattle.om_model.specs.declared.reply.Reply.{Reply}
+use Rattle.om_model.specs.declared.slow.access.PageState.{PageState}
+use Rattle.om_model.specs.declared.slow.access.PageState.TheVariants as page_state
 use Rattle.om_model.specs.declared.slow.calls.Answered.{Answered}
 use Rattle.om_model.specs.declared.slow.in_use.Kind.{Kind}
 use Rattle.om_model.specs.declared.slow.in_use.Kind.TheVariants as kind
@@ -27,6 +30,11 @@ abbrev pub kind_in : Kind → used.Kind
 kind_in (kind.Chunk class) = used.Chunk class
 kind_in kind.Pages = used.Pages
 kind_in kind.Guard = used.Guard
+
+abbrev pub page_state_in : PageState → access.PageState
+page_state_in page_state.Plain = access.Plain
+page_state_in page_state.Shut = access.Shut
+page_state_in page_state.Guarding = access.Guarding
 
 abbrev pub standing_in : Standing → stands.Standing
 standing_in standing.NotHeld = stands.NotHeld

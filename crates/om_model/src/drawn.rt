@@ -1,9 +1,11 @@
 ghost use Rattle.std.specs.Prelude.{◌≡◌, ◌<◌, ◌≤◌, ◌==◌, [], ◌∷◌, ◌++◌, length, slice_get};
 ghost use Rattle.std.specs.List.{AllByRecursion};
+ghost use Rattle.std.specs.Slice.Iter.{iter_rest};
 ghost use Rattle.om_model.specs.Data.Ranges.{IsU32};
 
 use crate::ranges::words_fit;
 use std::marker::Model;
+use std::slice;
 
 /// The words that one call drew, at most 4.
 #[derive(Drop)]
@@ -92,7 +94,15 @@ impl Drawn {
         words_fit(self.as_slice());
     }
 
-    pub(crate) fn as_slice(&self) -> &[u32]
+    /// The words, from the first on.
+    pub fn iter(&self) -> slice::Iter<'_, u32>
+        ensures { iter_rest result ≡ self.now }
+    {
+        self.as_slice().iter()
+    }
+
+    /// The words as a slice.
+    pub fn as_slice(&self) -> &[u32]
         ensures { result.now ≡ self.now }
     {
         &self.words[..self.len as usize]

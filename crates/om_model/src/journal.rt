@@ -1,10 +1,12 @@
 ghost use Rattle.std.specs.Prelude.{◌≡◌, ◌+◌, ◌-◌, ◌^◌, ◌<◌, ◌≤◌, ◌==◌, [], ◌∷◌, ◌++◌, length, Some, slice_get, OnOk};
+ghost use Rattle.std.specs.Slice.Iter.{iter_rest};
 ghost use Rattle.om_model.specs.Data.Ranges.{FitsJournal};
 
 use crate::entry::Entry;
 use crate::ranges::entry_fits;
 use std::alloc::{AllocError, Global};
 use std::marker::Model;
+use std::slice;
 
 /// The journal of a pool: every call and phase, in their order.
 #[derive(Drop)]
@@ -55,10 +57,7 @@ impl Journal {
         ensures spare { self.old.spare ≤ self.new.spare + 1 }
     {
         entry_fits(&entry);
-        match self.entries.push(entry) {
-            Ok(()) => {}
-            Err(_) => unreachable!(),
-        }
+        self.entries.push_reserved(entry);
     }
 
     /// How many entries there are.
@@ -88,5 +87,21 @@ impl Journal {
         ensures { slice_get self.now.items i ≡ Some result.now }
     {
         &self.entries[i as usize]
+    }
+
+    /// The entries, from the first on.
+    pub fn iter(&self) -> slice::Iter<'_, Entry>
+        ensures items { iter_rest result ≡ self.now.items }
+        ensures few { length (iter_rest result) < 2 ^ 32 }
+    {
+        self.entries.iter()
+    }
+
+    /// The entries as a slice.
+    pub fn as_slice(&self) -> &[Entry]
+        ensures items { result.now ≡ self.now.items }
+        ensures few { length result.now < 2 ^ 32 }
+    {
+        &self.entries
     }
 }

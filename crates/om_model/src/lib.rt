@@ -14,12 +14,10 @@ mod operation;
 mod ranges;
 mod reply;
 pub mod slow;
-#[cfg(test)]
-mod tests;
 pub mod text;
 mod transcript;
 
-pub use block::{Block, Place};
+pub use block::{Block, Place, SLOT_COUNT};
 pub use board::{Board, BoardEntry};
 pub use content::{Head, Told};
 pub use drawn::Drawn;

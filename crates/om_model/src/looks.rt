@@ -1,10 +1,12 @@
 ghost use Rattle.std.specs.Prelude.{◌≡◌, ◌+◌, ◌-◌, ◌^◌, ◌<◌, ◌≤◌, ◌==◌, [], ◌∷◌, ◌++◌, length, Some, slice_get, IfOk};
 ghost use Rattle.std.specs.List.{AllByRecursion};
+ghost use Rattle.std.specs.Slice.Iter.{iter_rest};
 ghost use Rattle.om_model.specs.Data.Ranges.{FitsLook};
 
 use crate::ranges::look_fits;
 use std::alloc::{AllocError, Global};
 use std::marker::Model;
+use std::slice;
 
 /// A zone at a version: the bits that are held after that move. Version 0 has all bits clear.
 #[derive(Clone, Copy, Debug, PartialEq, Eq)]
@@ -72,10 +74,7 @@ impl LookList {
         ensures spare { self.old.spare ≤ self.new.spare + 1 }
     {
         look_fits(look);
-        match self.looks.push(look) {
-            Ok(()) => {}
-            Err(_) => unreachable!(),
-        }
+        self.looks.push_reserved(look);
     }
 
     /// How many looks there are.
@@ -107,8 +106,18 @@ impl LookList {
         let _looks = &self.looks;
     }
 
-    pub(crate) fn as_slice(&self) -> &[Look]
-        ensures { result.now ≡ self.now.items }
+    /// The looks, from the first on.
+    pub fn iter(&self) -> slice::Iter<'_, Look>
+        ensures items { iter_rest result ≡ self.now.items }
+        ensures few { length (iter_rest result) < 2 ^ 32 }
+    {
+        self.looks.iter()
+    }
+
+    /// The looks as a slice.
+    pub fn as_slice(&self) -> &[Look]
+        ensures items { result.now ≡ self.now.items }
+        ensures few { length result.now < 2 ^ 32 }
     {
         &self.looks
     }

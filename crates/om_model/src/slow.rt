@@ -1,11 +1,14 @@
 //! The definitions as plain code over lists, for tests to compare with. The rules of a pool are those of a
 //! head and the pool's number.
+mod access;
 mod calls;
 mod free;
 mod in_use;
 mod journal;
+mod junk;
 mod looks;
 mod malloc;
+mod memory;
 mod moves;
 mod order;
 mod picks;
@@ -16,10 +19,12 @@ mod steps;
 mod text;
 mod well_formed;
 
+pub use access::{PageState, barred};
 pub use calls::{Answered, are_calls, calls_read, only_callers};
 pub use in_use::{Kind, Use, free_pages, is_begun, is_free_page, page_kind, uses};
 pub use journal::is_lawful;
 pub use looks::{are_looks, is_true_look};
+pub use memory::Memory;
 pub use moves::moves_of;
 pub use order::{fit_at, is_zone_order, last_version, owner};
 pub use picks::{open_pages, own_page, own_run, picked_place, place_address};

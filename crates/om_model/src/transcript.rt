@@ -1,11 +1,13 @@
 ghost use Rattle.std.specs.Prelude.{◌≡◌, ◌-◌, ◌^◌, ◌<◌, ◌==◌, [], ◌∷◌, ◌++◌, length, Some, slice_get, OnOk, OnErr};
 ghost use Rattle.std.specs.List.{AllByRecursion};
+ghost use Rattle.std.specs.Slice.Iter.{iter_rest};
 ghost use Rattle.om_model.specs.Data.Ranges.{FitsOutcome};
 
 use crate::ranges::outcome_fits;
 use crate::reply::Outcome;
 use std::alloc::{AllocError, Global};
 use std::marker::Model;
+use std::slice;
 
 /// The outcomes of a script's commands, from the first on.
 #[derive(Drop)]
@@ -75,6 +77,22 @@ impl Transcript {
         ensures { slice_get self.now i ≡ Some result.now }
     {
         &self.outcomes[i as usize]
+    }
+
+    /// The outcomes, from that of command 1 on.
+    pub fn iter(&self) -> slice::Iter<'_, Outcome>
+        ensures items { iter_rest result ≡ self.now }
+        ensures few { length (iter_rest result) < 2 ^ 32 }
+    {
+        self.outcomes.iter()
+    }
+
+    /// The outcomes as a slice.
+    pub fn as_slice(&self) -> &[Outcome]
+        ensures items { result.now ≡ self.now }
+        ensures few { length result.now < 2 ^ 32 }
+    {
+        &self.outcomes
     }
 }
 

@@ -5,7 +5,7 @@ use Rattle.om_model.specs.Data.CallEntry.{CallEntry}
 use Rattle.om_model.specs.Pool.Journal.{IsLawful, IsLawfulCall, Agrees, GivesUp, MayAnswer, next_of, state_of, step_of, wish_of}
 use Rattle.om_model.specs.Pool.Rules.{Rules, canary_byte, words_from}
 use Rattle.om_model.specs.Pool.State.{State}
-use Rattle.om_model.specs.Pool.Steps.{Answers, Step}
+use Rattle.om_model.specs.Pool.Steps.{Answers, Step, is_denied, KeepsWhereDenied}
 use Rattle.om_model.specs.Zones.Moves.{moves_of}
 use Rattle.om_model.specs.declared.entry.Entry.{Entry}
 use Rattle.om_model.specs.declared.entry.Entry.TheVariants.{Call}
@@ -19,9 +19,10 @@ use Rattle.om_model.proofs.Sound.{IsSound}
 use Rattle.om_model.proofs.Steps.{state_of-drawn}
 use Rattle.om_pool.specs.Chunks.{AreChunks, IsFormed}
 use Rattle.om_pool.specs.CoreKept.{spare_of, view_of, IsLookRoom, IsCore}
+use Rattle.om_pool.specs.Home.{IsHome}
 use Rattle.om_pool.specs.HoldingsView.{rules_in, state_in}
-use Rattle.om_pool.specs.PoolView.{IsRun, IsAlone, Takes}
-use Rattle.om_pool.specs.Zones.{CanMove}
+use Rattle.om_pool.specs.PoolView.{PoolView, IsRun, IsAlone, IsKeptWhereDenied, Takes}
+use Rattle.om_pool.specs.Zones.{CanMove, ZoneTable}
 use Rattle.om_pool.specs.ZonesKept.{FitsZones}
 use Rattle.om_pool.specs.declared.pool_core.Core.{Core}
 use Rattle.om_pool.proofs.Formed.{sound-formed}
@@ -54,6 +55,28 @@ module _ (core : Core) (is : IsCore core) where
   pub core_alone : IsAlone (view_of core)
   core_alone = record { order = (is.zones.stands).order; looks = (is.zones.looked).looks }
 
+-- room that is made changes none of it
+module _ (old new : Core) (is : IsCore old) (rules : rules_in new.state ≡ rules_in old.state) (state : state_in new.state ≡ state_in old.state) (entries : new.journal.items ≡ old.journal.items) where
+  pub kept-reserved : new.zones ≡ old.zones → new.home ≡ old.home → new.canary ≡ old.canary → IsLookRoom new.room → IsCore new
+  kept-reserved zones home canary room =
+      let ruled = rules_in old.state in
+      let held = ap (λ (s : State). s.held) state in
+      let Lawful : Rules → List Entry → Type 0 = λ r es. IsLawful r es in
+      let Fits : Rules → List ℕ → List Entry → ZoneTable → Type 0 = λ r pages es z. FitsZones r pages es z in
+      let Home : List ℕ → List (List ℕ) → Type 0 = λ pages h. IsHome pages h in
+      record {
+        lawful = subst (λ r. Lawful r new.journal.items) (sym rules) (subst (Lawful ruled) (sym entries) is.lawful);
+        left = state ∙ is.left ∙ sym (ap (state_of ruled) entries) ∙ ap (λ r. state_of r new.journal.items) (sym rules);
+        zones =
+            subst (λ r. Fits r new.state.held.items new.journal.items new.zones) (sym rules)
+            (subst (λ pages. Fits ruled pages new.journal.items new.zones) (sym held)
+            (subst (λ es. Fits ruled old.state.held.items es new.zones) (sym entries)
+            (subst (Fits ruled old.state.held.items old.journal.items) (sym zones) is.zones)));
+        home = subst (λ pages. Home pages new.home) (sym held) (subst (Home old.state.held.items) (sym home) is.home);
+        room = room;
+        canary = canary ∙ is.canary ∙ ap canary_byte (sym rules);
+      }
+
 -- room is made for one call at most
 one-spare : (core : Core) → spare_of core ≤ 1
 one-spare core = elim (is_some core.room) as (λ b. min (min core.journal.spare (if b then 1 else 0)) (min (vec_capacity core.state.held - vec_len core.state.held) (vec_capacity core.state.live - vec_len core.state.live)) ≤ 1) [
@@ -76,6 +99,7 @@ pub record Does (old new : Core) (who : Who) (op : Op) (reply : Reply) (words : 
   pub rules : rules_in new.state ≡ rules_in old.state
   pub canary : new.canary ≡ old.canary
   pub room : IsLookRoom new.room
+  pub home : IsHome new.state.held.items new.home
   pub added : new.journal.items ≡ old.journal.items ++ Call (entry_with who op reply words answers release) ∷ []
   pub zones : FitsZones (rules_in old.state) new.state.held.items (old.journal.items ++ Call (entry_with who op reply words answers release) ∷ []) new.zones
 
@@ -115,6 +139,7 @@ module _ (old new : Core) (who : Who) (op : Op) (reply : Reply) (words : List �
         lawful = subst (λ r. Lawful r new.journal.items) (sym does.rules) (subst (Lawful rules) (sym does.added) lawful_after);
         left = left_after ∙ sym (ap (state_of rules) does.added) ∙ ap (λ r. state_of r new.journal.items) (sym does.rules);
         zones = subst (λ r. Fits r new.journal.items) (sym does.rules) (subst (Fits rules) (sym does.added) does.zones);
+        home = does.home;
         room = does.room;
         canary = does.canary ∙ is.canary ∙ ap canary_byte (sym does.rules);
       }
@@ -133,3 +158,9 @@ module _ (old new : Core) (who : Who) (op : Op) (reply : Reply) (words : List �
         ∙ ap (λ ws. old.journal.items ++ Call (entry_with who op (step answers).reply ws answers release) ∷ []) does.words_are;
     spare = omega (arith, one-spare old);
   }
+
+-- a call that is denied changes nothing but the words drawn, as its step says
+pub taken-keeps : (old new : PoolView) (who : Who) (op : Op) (reply : Reply) (step : Answers → Step) → Takes old new who op reply step → ((answers : Answers) → KeepsWhereDenied old.state (step answers)) → IsKeptWhereDenied old new reply
+taken-keeps old new who op reply step took keeps denied =
+    let kept = keeps took.answers (ap is_denied (sym took.reply_is) ∙ denied) in
+    record { words = (step took.answers).words; same = took.next ∙ kept.1 }

@@ -1,17 +1,21 @@
 -- Sound states are formed as the code needs it: chunks, each on one page, and held pages that ascend.
-use Rattle.std.proofs.Common.{◌≡◌, ℕ, zero, suc, ◌*◌, ◌<◌, true, List, [], ◌∷◌, map, Option, Some, None, IfSome, IsSome, IsTrue, refl, sym, ap, ◌∙◌, subst, arith}
+use Rattle.std.proofs.Common.{◌≡◌, ℕ, zero, suc, ◌*◌, ◌<◌, Bool, true, false, ◌||◌, ◌==◌, if◌then◌else◌, List, [], ◌∷◌, map, replicate, Option, Some, None, IfSome, IsSome, IsTrue, refl, sym, ap, ◌∙◌, subst, arith}
 use Rattle.std.specs.Prelude.{slice_index_or, slice_set}
 use Rattle.std.specs.List.{flat_map, AllByRecursion}
 use Rattle.om_geom.specs.Classes.{is_class}
-use Rattle.om_model.specs.Pool.Free.{put_off, slot_of}
+use Rattle.om_frame.specs.MemoryLaws.{length-with_bytes, length-page-with_bytes}
+use Rattle.om_geom.specs.declared.address.Extent.{Extent}
+use Rattle.om_model.specs.Pool.Free.{into_slot, put_off, slot_of}
 use Rattle.om_model.specs.Pool.InUse.{Chunk, use_of_place, uses_by_class, uses_of_block}
+use Rattle.om_model.specs.Pool.Junk.{freed_byte, extent_of_place, with_freed_place}
 use Rattle.om_model.specs.Pool.Rules.{Rules, size_class}
-use Rattle.om_model.specs.Pool.State.{State, delayed, is_held}
+use Rattle.om_model.specs.Pool.Runs.{Run}
+use Rattle.om_model.specs.Pool.State.{State, delayed, filled_with, is_held, with_pages}
 use Rattle.om_model.specs.declared.block.Block.{Block}
 use Rattle.om_model.specs.declared.block.Place.{Place}
 use Rattle.om_model.proofs.Each.{all-first, all-second, all-filter}
 use Rattle.om_model.proofs.Sound.{IsPlaced, IsSound, placed-kind, placed-page, touches-placed}
-use Rattle.om_pool.specs.Chunks.{IsOnPage, IsChunk, IsWaiting, AreChunks, IsFormed}
+use Rattle.om_pool.specs.Chunks.{IsOnPage, IsChunk, IsWaiting, AreChunks, HasMemory, IsFormed}
 use Rattle.om_pool.specs.Freeing.{IsHeldPlace}
 use Rattle.om_pool.specs.HoldingsView.{rules_in, state_in, with_drawn}
 use Rattle.om_pool.specs.declared.holdings.Holdings.{Holdings}
@@ -62,6 +66,7 @@ module _ (rules : Rules) (state : State) (sound : IsSound rules state) where
     chunks = record { live = live-chunks rules state.held state.live sound.chunks in_live; waiting = slots-on rules state.held state.slots in_slots };
     ascends = sound.ascends;
     arena = let P : ℕ → Type 0 = λ n. AllByRecursion (λ page. page < 32 * n) state.held in subst P zones sound.arena;
+    memory = record { pages = sound.pages ∙ ap (λ n. 32 * n) zones; bytes = sound.bytes };
   }
 
   -- what a slot has lies on a held page
@@ -82,24 +87,79 @@ all-set P [] i x new all = tt
 all-set P (y ∷ ys) zero x new all = (new, all.1)
 all-set P (y ∷ ys) (suc i) x new all = (all.0, all-set P ys i x new all.1)
 
-put_off-chunks : (rules : Rules) (state : State) (slot : ℕ) (place : Place) → IsOnPage place → AreChunks rules state → AreChunks rules (put_off state slot place)
-put_off-chunks rules state slot place on chunks = record {
-  live = all-filter (IsChunk rules) _ state.live chunks.live;
-  waiting = all-set IsWaiting state.slots slot (Some place) on chunks.waiting;
-}
+module _ (rules : Rules) (state : State) where
+  filled-chunks : (byte : ℕ) (extent : Extent) → AreChunks rules state → AreChunks rules (filled_with byte extent state)
+  filled-chunks byte extent chunks = record { live = chunks.live; waiting = chunks.waiting }
+
+  filled-memory : (byte : ℕ) (extent : Extent) → HasMemory state → HasMemory (filled_with byte extent state)
+  filled-memory byte extent memory =
+      let new = replicate extent.len byte in
+      record {
+        pages = length-with_bytes state.memory extent.first new ∙ memory.pages;
+        bytes = λ page. length-page-with_bytes state.memory extent.first new page ∙ memory.bytes page;
+      }
+
+either : (P : State → Type 0) (test : Bool) (this other : State) → P this → P other → P (if test then this else other)
+either P true this other first second = first
+either P false this other first second = second
+
+module _ (rules : Rules) (state : State) (slot : ℕ) (place : Place) where
+  put_off-chunks : IsOnPage place → AreChunks rules state → AreChunks rules (put_off rules state slot place)
+  unfolding with_freed_place
+  put_off-chunks on chunks =
+      let left = into_slot state slot place in
+      let kept : AreChunks rules left = record {
+        live = all-filter (IsChunk rules) _ state.live chunks.live;
+        waiting = all-set IsWaiting state.slots slot (Some place) on chunks.waiting;
+      } in
+      either (AreChunks rules) (rules.options.junk == 1 || rules.options.junk == 2) _ left (filled-chunks rules left freed_byte (extent_of_place place) kept) kept
+
+  put_off-memory : HasMemory state → HasMemory (put_off rules state slot place)
+  unfolding with_freed_place
+  put_off-memory memory =
+      let left = into_slot state slot place in
+      let kept : HasMemory left = record { pages = memory.pages; bytes = memory.bytes } in
+      either HasMemory (rules.options.junk == 1 || rules.options.junk == 2) _ left (filled-memory rules left freed_byte (extent_of_place place) kept) kept
+
+  pub put_off-held : (put_off rules state slot place).held ≡ state.held
+  unfolding with_freed_place
+  put_off-held =
+      let left = into_slot state slot place in
+      either (λ s. s.held ≡ state.held) (rules.options.junk == 1 || rules.options.junk == 2) (filled_with freed_byte (extent_of_place place) left) left refl refl
 
 -- words that are drawn change none of it
-pub formed-drawn : (before own : Holdings) (count : ℕ) → own ≡ with_drawn count before → IsFormed (rules_in before) (state_in before) → IsFormed (rules_in own) (state_in own)
-formed-drawn before own count same formed =
-    let P : Holdings → Type 0 = λ x. IsFormed (rules_in x) (state_in x) in
-    subst P (sym same) (record { chunks = record { live = formed.chunks.live; waiting = formed.chunks.waiting }; ascends = formed.ascends; arena = formed.arena })
+module _ (before own : Holdings) (count : ℕ) (same : own ≡ with_drawn count before) where
+  pub formed-drawn : IsFormed (rules_in before) (state_in before) → IsFormed (rules_in own) (state_in own)
+  formed-drawn formed =
+      let P : Holdings → Type 0 = λ x. IsFormed (rules_in x) (state_in x) in
+      subst P (sym same) (record {
+        chunks = record { live = formed.chunks.live; waiting = formed.chunks.waiting };
+        ascends = formed.ascends;
+        arena = formed.arena;
+        memory = record { pages = formed.memory.pages; bytes = formed.memory.bytes };
+      })
 
 -- nor does a place that is put off
-pub chunks-put_off : (before drawn own : Holdings) (slot : ℕ) (place : Place) → drawn ≡ with_drawn 1 before → state_in own ≡ put_off (state_in drawn) slot place → rules_in own ≡ rules_in drawn
-    → IsOnPage place → AreChunks (rules_in before) (state_in before) → AreChunks (rules_in own) (state_in own)
-chunks-put_off before drawn own slot place same put rules on chunks =
+module _ (before drawn own : Holdings) (slot : ℕ) (place : Place) (same : drawn ≡ with_drawn 1 before) (put : state_in own ≡ put_off (rules_in drawn) (state_in drawn) slot place) where
+  now : state_in own ≡ put_off (rules_in before) (state_in (with_drawn 1 before)) slot place
+  now = put ∙ ap (λ (x : Holdings). put_off (rules_in x) (state_in x) slot place) same
+
+  pub chunks-put_off : rules_in own ≡ rules_in drawn → IsOnPage place → AreChunks (rules_in before) (state_in before) → AreChunks (rules_in own) (state_in own)
+  chunks-put_off rules on chunks =
+      let P : Rules → State → Type 0 = λ r s. AreChunks r s in
+      subst (λ r. P r (state_in own)) (sym (rules ∙ ap rules_in same)) (subst (P (rules_in before)) (sym now)
+      (put_off-chunks (rules_in before) (state_in (with_drawn 1 before)) slot place on (record { live = chunks.live; waiting = chunks.waiting })))
+
+  pub memory-put_off : HasMemory (state_in before) → HasMemory (state_in own)
+  memory-put_off memory =
+      subst HasMemory (sym now)
+      (put_off-memory (rules_in before) (state_in (with_drawn 1 before)) slot place (record { pages = memory.pages; bytes = memory.bytes }))
+
+  pub held-put_off : own.held.items ≡ before.held.items
+  held-put_off = ap (λ (s : State). s.held) now ∙ put_off-held (rules_in before) (state_in (with_drawn 1 before)) slot place
+
+-- nor a page that comes
+pub chunks-hold : (before own : Holdings) (run : Run) → state_in own ≡ with_pages run (state_in before) → rules_in own ≡ rules_in before → AreChunks (rules_in before) (state_in before) → AreChunks (rules_in own) (state_in own)
+chunks-hold before own run now rules chunks =
     let P : Rules → State → Type 0 = λ r s. AreChunks r s in
-    let now = put ∙ ap (λ (x : Holdings). put_off (state_in x) slot place) same in
-    let ruled = rules ∙ ap rules_in same in
-    subst (λ r. P r (state_in own)) (sym ruled) (subst (P (rules_in before)) (sym now)
-    (put_off-chunks (rules_in before) (state_in (with_drawn 1 before)) slot place on (record { live = chunks.live; waiting = chunks.waiting })))
+    subst (λ r. P r (state_in own)) (sym rules) (subst (P (rules_in before)) (sym now) (record { live = chunks.live; waiting = chunks.waiting }))

@@ -8,7 +8,7 @@ use Rattle.om_model.specs.Pool.InUse.{uses, is_free_page}
 use Rattle.om_model.specs.Pool.Journal.{GivesUp}
 use Rattle.om_model.specs.Pool.Rules.{Rules, words_from}
 use Rattle.om_model.specs.Pool.Runs.{Run}
-use Rattle.om_model.specs.Pool.State.{State, drawn_more, without_run}
+use Rattle.om_model.specs.Pool.State.{State, drawn_more, without_pages}
 use Rattle.om_model.specs.Pool.Steps.{Step}
 use Rattle.om_model.specs.declared.block.Place.{Place}
 use Rattle.om_model.specs.declared.entry.Entry.TheVariants.{Call}
@@ -38,7 +38,7 @@ module _ (rules : Rules) (state : State) (place : Place) where
   evicted-kept few = evicted-cond (is_free_page (uses rules state) (page_at place.address)) (is_surplus rules state) _ (record { release = None; next = state }) few
 
   pub evicted-gone : is_free_page (uses rules state) (page_at place.address) ≡ true → is_surplus rules state ≡ true
-      → evicted rules state (Some place) ≡ record { release = Some (one_page (page_at place.address)); next = record state { held = without_run (one_page (page_at place.address)) state.held } }
+      → evicted rules state (Some place) ≡ record { release = Some (one_page (page_at place.address)); next = without_pages (one_page (page_at place.address)) state }
   unfolding kept_or_let_go
   evicted-gone free many = rw (free, many) refl
 
@@ -60,39 +60,8 @@ again-seen rules state address seen is =
     ap (λ b. let step : Step = record { reply = if b then reply.Fault fault.DoubleFree else reply.Done; words = 1; release = None; next = drawn_more 1 state } in step) (sym is)
 
 pub delay-is : (rules : Rules) (state : State) (place : Place) (slot : ℕ) (before : Option Place) → slot ≡ drawn_slot rules state → before ≡ slot_of state slot
-    → delay rules state place ≡ done_with 1 (evicted rules (put_off (drawn_more 1 state) slot place) before)
+    → delay rules state place ≡ done_with 1 (evicted rules (put_off rules (drawn_more 1 state) slot place) before)
 unfolding delay
 delay-is rules state place slot before at was =
-    ap (λ s. done_with 1 (evicted rules (put_off (drawn_more 1 state) s place) (slot_of state s))) (sym at)
-    ∙ ap (λ o. done_with 1 (evicted rules (put_off (drawn_more 1 state) slot place) o)) (sym was)
-
--- what the calls of a body say, the old core being kept
-pub record IsFree (old new : Core) (address : ℕ) (step : Step) (words : List ℕ) (release : Option Move) : Type 0 where
-  pub step_is : free (rules_in old.state) (state_in old.state) address ≡ step
-  pub gives_up : GivesUp step.release release
-  pub words_are : words ≡ words_from (rules_in old.state) (state_in old.state).drawn step.words
-  pub next : state_in new.state ≡ step.next
-  pub rules : rules_in new.state ≡ rules_in old.state
-  pub canary : new.canary ≡ old.canary
-  pub room : new.room ≡ old.room
-  pub left : IsLeft old.zones new.zones old.state.held.items new.state.held.items release
-
-module _ (old new : Core) (who : Who) (address : ℕ) (answer : Reply) (step : Step) (words : List ℕ) (release : Option Move) (core : IsCore old) (is : IsFree old new address step words release)
-    (answer_is : answer ≡ step.reply)
-    (added : new.journal.items ≡ old.journal.items ++ Call (entry_with who (Free address) answer words (record { claim = None; looks = []; taken = None }) release) ∷ []) where
-  pub free-does : Does old new who (Free address) answer words (record { claim = None; looks = []; taken = None }) (λ given. free (rules_in old.state) (state_in old.state) address) release
-  free-does =
-      let step_is = is.step_is in
-      record {
-        may = (refl, refl, refl);
-        step_is = refl;
-        gives_up = let P : Step → Type 0 = λ s. GivesUp s.release release in subst P (sym step_is) is.gives_up;
-        reply_is = answer_is ∙ ap (λ (s : Step). s.reply) (sym step_is);
-        words_are = is.words_are ∙ ap (λ (s : Step). words_from (rules_in old.state) (state_in old.state).drawn s.words) (sym step_is);
-        next = is.next ∙ ap (λ (s : Step). s.next) (sym step_is);
-        rules = is.rules;
-        canary = is.canary;
-        room = rw is.room core.room;
-        added = added;
-        zones = fits-left (rules_in old.state) old.state.held.items old.journal.items old.zones core.zones _ new.state.held.items new.zones release refl refl refl refl is.left;
-      }
+    ap (λ s. done_with 1 (evicted rules (put_off rules (drawn_more 1 state) s place) (slot_of state s))) (sym at)
+    ∙ ap (λ o. done_with 1 (evicted rules (put_off rules (drawn_more 1 state) slot place) o)) (sym was)

@@ -3,10 +3,13 @@ pub mod CoreLaws
 pub mod FitsLaws
 pub mod Formed
 pub mod FreeLaws
+pub mod HomeLaws
 pub mod Lists
 pub mod LookLaws
 pub mod MallocLaws
 pub mod Pages
+pub mod PlaceBytes
+pub mod UnaskedLaws
 pub mod Uses
 pub mod ZoneLaws
 pub mod ZoneMoves

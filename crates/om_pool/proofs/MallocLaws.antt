@@ -3,24 +3,28 @@ use Rattle.std.proofs.Common.{◌≡◌, ℕ, ◌+◌, ◌-◌, ◌%◌, ◌<◌
 use Rattle.std.specs.List.{find, slice_get, AllByRecursion}
 use Rattle.om_model.specs.Pool.InUse.{Use, uses, is_free_page}
 use Rattle.om_model.specs.Pool.Journal.{is_served, wish_of, MayAnswer}
-use Rattle.om_model.specs.Pool.Malloc.{block_or_null, block_placed, malloc, malloc_wish, pages_by_class, placed_where, search_unless, words_by_class, Placed}
+use Rattle.om_model.specs.Pool.Junk.{fresh_byte, data_extent, with_fresh_junk}
+use Rattle.om_model.specs.Pool.Malloc.{address_on, block_or_null, block_placed, malloc, malloc_wish, pages_by_class, placed_on, placed_where, with_block, search_unless, words_by_class, Placed}
 use Rattle.om_model.specs.Pool.Picks.{is_open_page, open_pages, own_page}
 use Rattle.om_model.specs.Pool.Rules.{Rules, size_class, word_at, words_from}
 use Rattle.om_model.specs.Pool.Runs.{run_of}
-use Rattle.om_model.specs.Pool.State.{State, drawn_more, is_held}
+use Rattle.om_model.specs.Pool.State.{State, drawn_more, filled_with, is_held, with_pages}
 use Rattle.om_model.specs.Pool.Steps.{Answers, Nothing, Step, Wish}
 use Rattle.om_model.specs.Zones.Moves.{pages_sought, search_word}
+use Rattle.om_model.specs.declared.block.Block.{Block}
 use Rattle.om_model.specs.declared.entry.Entry.TheVariants.{Call}
 use Rattle.om_model.specs.declared.entry.Move.{Move}
 use Rattle.om_model.specs.declared.looks.Look.{Look}
 use Rattle.om_model.specs.declared.operation.Op.TheVariants.{Malloc}
 use Rattle.om_model.specs.declared.operation.Who.{Who}
 use Rattle.om_model.specs.declared.reply.Reply.{Reply}
-use Rattle.om_model.proofs.Each.{all-filter, all-find, all-get}
+use Rattle.om_model.proofs.Each.{all-both, all-filter, all-find, all-get}
+use Rattle.om_model.proofs.Held.{all-held}
 use Rattle.om_model.proofs.Malloc.{chunk-malloc, chunk-wish}
 use Rattle.om_pool.specs.CoreKept.{IsLookRoom, IsCore}
+use Rattle.om_pool.specs.Home.{IsHome}
 use Rattle.om_pool.specs.HoldingsView.{rules_in, state_in, uses_in}
-use Rattle.om_pool.specs.Placing.{IsFor, reply_for}
+use Rattle.om_pool.specs.Placing.{IsFor, IsOwn, reply_for}
 use Rattle.om_pool.specs.Zones.{ZoneTable, is_page_held, IsAsked}
 use Rattle.om_pool.specs.ZonesKept.{FitsZones}
 use Rattle.om_pool.specs.declared.pool_core.Core.{Core}
@@ -44,7 +48,7 @@ own-all P used held class word page all own =
     (all-get P pages (word % length pages) page (all-filter P (is_open_page used class) held all))
 
 pub is-for : (rules : Rules) (held : List ℕ) (old new : ZoneTable) (own : Option ℕ) (word : ℕ) (looks : List Look) (claim : Option Move) → length old.bits ≡ 64 → ((page : ℕ) → is_page_held old page ≡ is_held held page)
-    → IfSome own (λ page. page < 2048) → IsAsked own old new word looks claim → IsFor held own claim
+    → IfSome own (IsOwn held) → IsAsked own old new word looks claim → IsFor held own claim
 is-for rules held old new (Some page) word looks claim zones pages low asked = low
 is-for rules held old new None word looks None zones pages low asked = tt
 is-for rules held old new None word looks (Some move) zones pages low asked =
@@ -55,17 +59,27 @@ is-for rules held old new None word looks (Some move) zones pages low asked =
       one = claimed.count;
     }
 
-pub own-low : (rules : Rules) (state : State) (class word : ℕ) (own : Option ℕ) → AllByRecursion (λ page. page < 2048) state.held → own ≡ own_page (uses rules state) state.held class word → IfSome own (λ page. page < 2048)
-own-low rules state class word None all is = tt
-own-low rules state class word (Some page) all is = own-all (λ p. p < 2048) (uses rules state) state.held class word page all (sym is)
+pub own-is : (rules : Rules) (state : State) (class word : ℕ) (own : Option ℕ) → AllByRecursion (λ page. page < 2048) state.held → own ≡ own_page (uses rules state) state.held class word → IfSome own (IsOwn state.held)
+own-is rules state class word None all is = tt
+own-is rules state class word (Some page) all is =
+    own-all (IsOwn state.held) (uses rules state) state.held class word page
+    (all-both (λ p. is_held state.held p ≡ true) (λ p. p < 2048) (IsOwn state.held) state.held (λ p has low. record { held_is = has; there = low }) (all-held state.held) all) (sym is)
 
 -- ---- the step
 
+on-held : (rules : Rules) (state : State) (page word size site : ℕ) → ((placed_on rules state page word size site).next).held ≡ state.held
+unfolding with_fresh_junk
+on-held rules state page word size site =
+    let block : Block = record { address = address_on rules state page word (size_class rules size); size = size; site = site } in
+    let whole = with_block block state in
+    let filled = filled_with fresh_byte (data_extent rules block) whole in
+    elim (rules.options.junk == 2) as (λ b. (if b then filled else whole).held ≡ state.held) [ true ↦ refl | false ↦ refl ]
+
 -- the held pages after a block was placed
 placed-held : (rules : Rules) (state : State) (own : Option ℕ) (claim : Option Move) (word size site : ℕ) → ((placed_where rules state own claim word size site).next).held ≡ held_after own claim state.held
-placed-held rules state (Some page) claim word size site = refl
+placed-held rules state (Some page) claim word size site = on-held rules state page word size site
 placed-held rules state None None word size site = refl
-placed-held rules state None (Some move) word size site = refl
+placed-held rules state None (Some move) word size site = on-held rules (with_pages (run_of move) state) (run_of move).first word size site
 
 reply-is : (rules : Rules) (address : Option ℕ) → reply_for rules.options.xmalloc address ≡ block_or_null rules address
 reply-is rules None = refl
@@ -82,6 +96,7 @@ pub record IsMalloc (old new : Core) (own : Option ℕ) (first second class size
   pub rules : rules_in new.state ≡ rules_in old.state
   pub canary : new.canary ≡ old.canary
   pub room : IsLookRoom new.room
+  pub home : IsHome new.state.held.items new.home
 
 module _ (old new : Core) (who : Who) (own : Option ℕ) (first second class size site : ℕ) (looks : List Look) (claim : Option Move) (placed : Placed) (answer : Reply)
     (core : IsCore old) (is : IsMalloc old new own first second class size site looks claim placed)
@@ -134,6 +149,7 @@ module _ (old new : Core) (who : Who) (own : Option ℕ) (first second class siz
         rules = is.rules;
         canary = is.canary;
         room = is.room;
+        home = is.home;
         added = added;
         zones = subst Fits (sym held-is) (fits-asked rules old.state.held.items old.journal.items old.zones core.zones entry first refl refl searched one own claim new.zones refl is.asked);
       }

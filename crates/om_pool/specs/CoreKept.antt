@@ -4,6 +4,7 @@ use Rattle.om_geom.specs.Numbers.{most_zones}
 use Rattle.om_model.specs.Data.Room.{Looks}
 use Rattle.om_model.specs.Pool.Journal.{IsLawful, state_of}
 use Rattle.om_model.specs.Pool.Rules.{canary_byte}
+use Rattle.om_pool.specs.Home.{IsHome}
 use Rattle.om_pool.specs.HoldingsView.{rules_in, state_in, HasPlace}
 use Rattle.om_pool.specs.PoolView.{PoolView}
 use Rattle.om_pool.specs.ZonesKept.{FitsZones}
@@ -26,6 +27,7 @@ pub record IsCore (core : Core) : Type 0 where
   pub lawful : IsLawful (rules_in core.state) core.journal.items
   pub left : state_in core.state ≡ state_of (rules_in core.state) core.journal.items
   pub zones : FitsZones (rules_in core.state) core.state.held.items core.journal.items core.zones
+  pub home : IsHome core.state.held.items core.home
   pub room : IsLookRoom core.room
   pub canary : core.canary ≡ canary_byte (rules_in core.state)
 

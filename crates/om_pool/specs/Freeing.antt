@@ -1,8 +1,7 @@
--- A free, as the core makes it: its step, its entry, and what becomes of a place that left its slot.
-use Rattle.std.specs.Prelude.{◌≡◌, ℕ, ◌*◌, ◌<◌, true, List, [], Option, None}
+-- A free, as the core makes it: its step, and what becomes of a place that left its slot.
+use Rattle.std.specs.Prelude.{◌≡◌, ℕ, ◌*◌, ◌<◌, true, List, Option}
 use Rattle.om_geom.specs.Addresses.{page_at}
 use Rattle.om_geom.specs.Numbers.{zone_pages, most_zones}
-use Rattle.om_model.specs.Data.CallEntry.{CallEntry}
 use Rattle.om_model.specs.Pool.Free.{evicted, free}
 use Rattle.om_model.specs.Pool.Journal.{GivesUp}
 use Rattle.om_model.specs.Pool.State.{is_held}
@@ -13,6 +12,7 @@ use Rattle.om_model.specs.declared.operation.Op.TheVariants.{Free}
 use Rattle.om_model.specs.declared.operation.Who.{Who}
 use Rattle.om_model.specs.declared.reply.Reply.{Reply}
 use Rattle.om_pool.specs.CoreKept.{view_of}
+use Rattle.om_pool.specs.Home.{IsHome}
 use Rattle.om_pool.specs.HoldingsView.{rules_in, state_in}
 use Rattle.om_pool.specs.PoolView.{Takes}
 use Rattle.om_pool.specs.Zones.{IsLeft}
@@ -27,20 +27,16 @@ abbrev pub Frees : Core → Core → Who → ℕ → Reply → Type 0
 Frees old new who address reply =
     Takes (view_of old) (view_of new) who (Free address) reply (λ answers. free (rules_in old.state) (state_in old.state) address)
 
--- its entry: the zones were asked for nothing
-abbrev pub free_entry : Who → ℕ → Reply → List ℕ → Option Move → CallEntry
-free_entry who address reply words release =
-    record { who = who; op = Free address; reply = reply; words = words; looks = []; taken = None; claim = None; release = release }
-
 -- the place lies on a held page of the arena
 pub record IsHeldPlace (held : List ℕ) (place : Place) : Type 0 where
   pub held_is : is_held held (page_at place.address) ≡ true
   pub there : page_at place.address < zone_pages * most_zones
 
--- what becomes free stays or is let go, as the rule says; beside the state only the zones may have changed
+-- what becomes free stays or is let go, as the rule says; beside the state only the zones and home may have changed
 pub record Evicts (old new : Core) (place : Option Place) (release : Option Move) : Type 0 where
   pub rules : rules_in new.state ≡ rules_in old.state
   pub next : state_in new.state ≡ (evicted (rules_in old.state) (state_in old.state) place).next
   pub gives_up : GivesUp (evicted (rules_in old.state) (state_in old.state) place).release release
   pub zones : IsLeft old.zones new.zones old.state.held.items new.state.held.items release
-  pub same : new ≡ record (record old { zones = new.zones }) { state = new.state }
+  pub home : IsHome new.state.held.items new.home
+  pub same : new ≡ record (record (record old { zones = new.zones }) { state = new.state }) { home = new.home }

@@ -10,7 +10,7 @@ abbrev pub rules_in : Holdings → Rules
 rules_in own = rules_by own.opts own.words.source
 
 abbrev pub state_in : Holdings → State
-state_in own = record { held = own.held.items; live = own.live.items; slots = own.slots; drawn = own.words.place }
+state_in own = record { held = own.held.items; live = own.live.items; slots = own.slots; drawn = own.words.place; memory = own.shelf }
 
 -- what is in use
 abbrev pub uses_in : Holdings → List Use

@@ -1,12 +1,15 @@
+pub mod Access
 pub mod Chunks
 pub mod CoreKept
 pub mod HoldingsView
 pub mod Freeing
+pub mod Home
 pub mod LooksKept
 pub mod Placing
 pub mod PoolView
 pub mod Questions
 pub mod Standings
+pub mod Unasked
 pub mod Zones
 pub mod ZonesKept
 pub mod ZoneStand

@@ -1,5 +1,5 @@
 -- The page for a block: one of the pool's own, or a claimed one that is not held yet.
-use Rattle.std.specs.Prelude.{◌≡◌, ℕ, ◌*◌, ◌<◌, Bool, false, List, Option, Some, None, if◌then◌else◌}
+use Rattle.std.specs.Prelude.{◌≡◌, ℕ, ◌*◌, ◌<◌, Bool, true, false, List, Option, Some, None, if◌then◌else◌}
 use Rattle.om_geom.specs.Numbers.{zone_pages, most_zones}
 use Rattle.om_model.specs.Pool.Runs.{run_of}
 use Rattle.om_model.specs.Pool.State.{is_held}
@@ -9,6 +9,11 @@ use Rattle.om_model.specs.declared.reply.Reply.{Reply}
 use Rattle.om_model.specs.declared.reply.Reply.TheVariants as reply
 use Rattle.om_model.specs.declared.reply.Why.TheVariants.{NoRun}
 
+-- a held page of the arena
+pub record IsOwn (held : List ℕ) (page : ℕ) : Type 0 where
+  pub held_is : is_held held page ≡ true
+  pub there : page < zone_pages * most_zones
+
 -- a claim of one page of the arena that is not held
 pub record IsForClaim (held : List ℕ) (claim : Move) : Type 0 where
   pub there : (run_of claim).first < zone_pages * most_zones
@@ -16,7 +21,7 @@ pub record IsForClaim (held : List ℕ) (claim : Move) : Type 0 where
   pub one : claim.count ≡ 1
 
 abbrev pub IsFor : List ℕ → Option ℕ → Option Move → Type 0
-IsFor held (Some page) claim = page < zone_pages * most_zones
+IsFor held (Some page) claim = IsOwn held page
 IsFor held None (Some claim) = IsForClaim held claim
 IsFor held None None = Unit {0}
 

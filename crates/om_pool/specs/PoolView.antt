@@ -1,14 +1,14 @@
 -- A pool as its callers see it: the rules by which it answers, its state, its journal, and for how many
 -- calls room is already made.
-use Rattle.std.specs.Prelude.{◌≡◌, ℕ, ◌+◌, ◌≤◌, [], ◌∷◌, ◌++◌, Option}
+use Rattle.std.specs.Prelude.{◌≡◌, ℕ, ◌+◌, ◌≤◌, true, [], ◌∷◌, ◌++◌, Option}
 use Rattle.om_geom.specs.Numbers.{most_zones}
 use Rattle.om_opts.specs.declared.options.Opts.{Opts}
 use Rattle.om_words.specs.DrawnWords.{Source}
 use Rattle.om_model.specs.Data.Room.{Entries}
 use Rattle.om_model.specs.Pool.Journal.{IsLawful, GivesUp, MayAnswer, entry_of, state_of, wish_of}
 use Rattle.om_model.specs.Pool.Rules.{Rules}
-use Rattle.om_model.specs.Pool.State.{State}
-use Rattle.om_model.specs.Pool.Steps.{Answers, Step}
+use Rattle.om_model.specs.Pool.State.{State, drawn_more}
+use Rattle.om_model.specs.Pool.Steps.{Answers, Step, is_denied}
 use Rattle.om_model.specs.Zones.Looks.{AreLooks}
 use Rattle.om_model.specs.Zones.Moves.{moves_of}
 use Rattle.om_model.specs.Zones.Order.{IsZoneOrder}
@@ -51,6 +51,15 @@ pub record Takes (old new : PoolView) (who : Who) (op : Op) (reply : Reply) (ste
   pub next : new.state ≡ (step answers).next
   pub added : new.journal.items ≡ old.journal.items ++ Call (entry_of old.rules old.state who op answers (step answers) release) ∷ []
   pub spare : old.spare ≤ new.spare + 1
+
+-- nothing of the state has changed but the words drawn
+pub record IsButForWords (old new : State) : Type 0 where
+  pub words : ℕ
+  pub same : new ≡ drawn_more words old
+
+-- where a call is denied, by a null or a fault, only the words drawn and the journal have changed
+abbrev pub IsKeptWhereDenied : PoolView → PoolView → Reply → Type 0
+IsKeptWhereDenied old new reply = is_denied reply ≡ true → IsButForWords old.state new.state
 
 -- the rules, the state and the entries are the same; room may have been made
 pub record IsAsBefore (old new : PoolView) : Type 0 where

@@ -1,11 +1,12 @@
 //! The calls of a pool.
 ghost use Rattle.std.specs.Prelude.{◌≡◌, ◌-◌, ◌^◌, ◌<◌, ◌≤◌, [], length, IfOk, IsTrue, OnOk};
+ghost use Rattle.om_model.specs.Pool.Access.{load, store};
 ghost use Rattle.om_model.specs.Pool.Free.{free};
 ghost use Rattle.om_model.specs.Pool.Journal.{is_served};
 ghost use Rattle.om_model.specs.Pool.Malloc.{malloc};
 ghost use Rattle.om_model.specs.Pool.Rules.{canary_byte};
 ghost use Rattle.om_model.specs.Pool.State.{opening};
-ghost use Rattle.om_pool.specs.PoolView.{rules_by, IsRun, IsAlone, IsAsBefore, Takes};
+ghost use Rattle.om_pool.specs.PoolView.{rules_by, IsRun, IsAlone, IsAsBefore, IsKeptWhereDenied, Takes};
 
 use crate::pool_core::Core;
 use om_geom::Addr;
@@ -39,7 +40,8 @@ impl Pool {
     pub fn start(alloc: Global, opts: Opts, words: Words) -> Result<Pool, AllocError>
         requires { words.place ≡ 0 }
         ensures rules { IfOk result (λ pool. pool.rules ≡ rules_by opts words.source) }
-        ensures state { IfOk result (λ pool. pool.state ≡ opening) }
+        ensures state { IfOk result (λ pool. pool.state
+            ≡ opening (rules_by opts words.source)) }
         ensures entries { IfOk result (λ pool. pool.journal.items ≡ []) }
         ensures run { IfOk result IsRun }
         ensures alone { IfOk result IsAlone }
@@ -68,6 +70,7 @@ impl Pool {
         requires served { IsTrue (is_served self.old.rules size) }
         ensures taken { Takes self.old self.new who (Op.Malloc size site) result
             (λ answers. malloc self.old.rules self.old.state size site answers.claim) }
+        ensures denied { IsKeptWhereDenied self.old self.new result }
         ensures before { IsRun self.old }
         ensures run { IsRun self.new }
         ensures alone { IsAlone self.new }
@@ -84,12 +87,42 @@ impl Pool {
         requires short { length self.old.journal.items < 2 ^ 32 - 1 }
         ensures taken { Takes self.old self.new who (Op.Free addr.0) result
             (λ answers. free self.old.rules self.old.state addr.0) }
+        ensures denied { IsKeptWhereDenied self.old self.new result }
         ensures before { IsRun self.old }
         ensures run { IsRun self.new }
         ensures alone { IsAlone self.new }
     {
         let _ = rt;
         self.core.free(who, addr.0)
+    }
+
+    /// Reads the byte at an address, be it in a block, between blocks, freed or on a free page. No
+    /// byte of a block of size 0 can be read, nor one of a free page under unmap.
+    pub fn load(&mut self, who: Who, addr: Addr) -> Reply
+        requires room { 1 ≤ self.old.spare }
+        requires short { length self.old.journal.items < 2 ^ 32 - 1 }
+        ensures taken { Takes self.old self.new who (Op.Load addr.0) result
+            (λ answers. load self.old.rules self.old.state addr.0) }
+        ensures denied { IsKeptWhereDenied self.old self.new result }
+        ensures before { IsRun self.old }
+        ensures run { IsRun self.new }
+        ensures alone { IsAlone self.new }
+    {
+        self.core.load(who, addr.0)
+    }
+
+    /// Writes one byte, wherever one can be read.
+    pub fn store(&mut self, who: Who, addr: Addr, byte: u8) -> Reply
+        requires room { 1 ≤ self.old.spare }
+        requires short { length self.old.journal.items < 2 ^ 32 - 1 }
+        ensures taken { Takes self.old self.new who (Op.Store addr.0 byte) result
+            (λ answers. store self.old.rules self.old.state addr.0 byte) }
+        ensures denied { IsKeptWhereDenied self.old self.new result }
+        ensures before { IsRun self.old }
+        ensures run { IsRun self.new }
+        ensures alone { IsAlone self.new }
+    {
+        self.core.store(who, addr.0, byte)
     }
 
     /// What the pool has done.

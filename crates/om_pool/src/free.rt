@@ -6,17 +6,20 @@ ghost use Rattle.om_model.specs.Pool.Free.{delay, freed_again, is_surplus, slot_
 ghost use Rattle.om_model.specs.Pool.InUse.{is_free_page};
 ghost use Rattle.om_model.specs.Pool.Steps.{unchanged};
 ghost use Rattle.om_model.specs.declared.entry.Entry.TheVariants.{Call};
-ghost use Rattle.om_pool.specs.Chunks.{AreChunks, IsOnPage};
+ghost use Rattle.om_pool.specs.Chunks.{AreChunks, HasMemory};
 ghost use Rattle.om_pool.specs.CoreKept.{view_of, IsCore, HasRoom};
-ghost use Rattle.om_pool.specs.Freeing.{free_entry, FreeIs, Frees, IsHeldPlace, Evicts};
+ghost use Rattle.om_pool.specs.Freeing.{FreeIs, Frees, IsHeldPlace, Evicts};
+ghost use Rattle.om_pool.specs.Home.{IsHome};
 ghost use Rattle.om_pool.specs.HoldingsView.{rules_in, state_in, uses_in};
+ghost use Rattle.om_pool.specs.Standings.{IsPlace};
+ghost use Rattle.om_pool.specs.Unasked.{unasked_entry};
 ghost use Rattle.om_pool.specs.Zones.{CanMove, IsReleased};
 
 use crate::holdings::slot_at;
 use crate::in_use::{page_at, slot_holds};
 use crate::pool_core::Core;
 use crate::standing::Standing;
-use om_model::{CallEntry, Drawn, Fault, LookList, Move, Op, Place, Reply, Who};
+use om_model::{Drawn, Fault, Move, Op, Place, Reply, SLOT_COUNT, Who};
 
 impl Core {
     /// Frees an address, as free(3).
@@ -58,7 +61,7 @@ impl Core {
         ensures taken { Frees self.old self.new who address result }
     {
         let word = self.state.draw();
-        let slot = slot_at(&self.state.slots, word as usize % 16);
+        let slot = slot_at(&self.state.slots, word as usize % SLOT_COUNT);
         let reply = reply_again(is_seen(self.state.opts.freecheck, slot, address));
         self.enter_free(who, address, reply, Drawn::one(word), None);
         reply
@@ -69,14 +72,14 @@ impl Core {
     fn delay(&mut self, who: Who, address: u64, place: Place) -> Reply
         requires kept { IsCore self.old }
         requires room { HasRoom self.old }
-        requires place { IsOnPage place }
+        requires place { IsPlace self.old.state.shelf place }
         requires is { FreeIs self.old address
             (delay (rules_in self.old.state) (state_in self.old.state) place) }
         ensures kept { IsCore self.new }
         ensures taken { Frees self.old self.new who address result }
     {
         let word = self.state.draw();
-        let evicted = self.state.put_off(place, word as usize % 16);
+        let evicted = self.state.put_off(place, word as usize % SLOT_COUNT);
         let release = self.evict(evicted);
         self.enter_free(who, address, Reply::Done, Drawn::one(word), release);
         Reply::Done
@@ -85,6 +88,8 @@ impl Core {
     // The place left its slot. Where its page became free and is surplus, it is let go.
     fn evict(&mut self, evicted: Option<Place>) -> Option<Move>
         requires chunks { AreChunks (rules_in self.old.state) (state_in self.old.state) }
+        requires memory { HasMemory (state_in self.old.state) }
+        requires home { IsHome self.old.state.held.items self.old.home }
         requires held { IfSome evicted (IsHeldPlace self.old.state.held.items) }
         requires zones { length self.old.zones.bits ≡ most_zones }
         requires versions { CanMove self.old.zones }
@@ -94,7 +99,7 @@ impl Core {
         let page = page_at(place.address) as u32;
         if self.becomes_surplus(page) {
             let release = self.zones.release(page, 1);
-            self.state.leave(page);
+            self.state.leave(page, &mut self.home);
             Some(release)
         } else {
             None
@@ -110,7 +115,6 @@ impl Core {
         self.state.is_free_page(page) && self.state.is_surplus()
     }
 
-    // Adds the entry of a free.
     fn enter_free(
         &mut self,
         who: Who,
@@ -121,21 +125,11 @@ impl Core {
     )
         requires short { length self.old.journal.items < 2 ^ 32 - 1 }
         requires room { 1 ≤ self.old.journal.spare }
-        ensures added { self.new.journal.items
-            ≡ self.old.journal.items ++ Call (free_entry who address reply words release) ∷ [] }
+        ensures added { self.new.journal.items ≡ self.old.journal.items
+            ++ Call (unasked_entry who (Op.Free address) reply words release) ∷ [] }
         ensures same { self.new ≡ record self.old { journal = self.new.journal } }
     {
-        let looks = LookList::empty(self.alloc);
-        self.enter(CallEntry {
-            who,
-            op: Op::Free { addr: address },
-            reply,
-            words,
-            looks,
-            taken: None,
-            claim: None,
-            release,
-        });
+        self.enter_unasked(who, Op::Free { addr: address }, reply, words, release);
     }
 }
 

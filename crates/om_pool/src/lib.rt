@@ -1,10 +1,13 @@
 //! The allocator of one pool.
 #![tactic(auto)]
 
+mod access;
 mod calls;
 mod free;
 mod holdings;
+mod home;
 mod in_use;
+mod junk;
 mod malloc;
 mod picks;
 mod pool_core;

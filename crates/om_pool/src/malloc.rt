@@ -1,5 +1,5 @@
 //! Allocation of a chunk.
-ghost use Rattle.std.specs.Prelude.{◌≡◌, ◌+◌, ◌-◌, ◌^◌, ◌<◌, ◌≤◌, ◌==◌, IsTrue, [], length, vec_len, vec_capacity, ◌&&◌, not, Some, None, IsSome, IfSome, is_some};
+ghost use Rattle.std.specs.Prelude.{◌≡◌, ◌+◌, ◌-◌, ◌^◌, ◌<◌, ◌≤◌, IsTrue, [], length, Some, None, IsSome, IfSome, is_some};
 ghost use Rattle.om_geom.specs.Classes.{class_of, is_class};
 ghost use Rattle.om_geom.specs.Numbers.{most_zones};
 ghost use Rattle.om_model.specs.Pool.Journal.{is_served};
@@ -8,6 +8,7 @@ ghost use Rattle.om_model.specs.Pool.Picks.{own_page};
 ghost use Rattle.om_model.specs.Pool.Rules.{size_class, word_at};
 ghost use Rattle.om_pool.specs.Chunks.{IsFormed};
 ghost use Rattle.om_pool.specs.CoreKept.{view_of, IsLookRoom, IsCore, HasRoom};
+ghost use Rattle.om_pool.specs.Home.{IsHome};
 ghost use Rattle.om_pool.specs.HoldingsView.{rules_in, state_in, uses_in, with_drawn, HasPlace};
 ghost use Rattle.om_pool.specs.Placing.{reply_for, IsFor};
 ghost use Rattle.om_pool.specs.PoolView.{Takes};
@@ -15,6 +16,7 @@ ghost use Rattle.om_pool.specs.Zones.{CanMove, IsAsked};
 
 use crate::holdings::Holdings;
 use crate::pool_core::Core;
+use om_frame::Shelf;
 use om_geom::class_of;
 use om_model::{CallEntry, Drawn, Fault, LookList, Move, Op, Reply, Who, Why};
 
@@ -51,8 +53,8 @@ impl Holdings {
         Choice { first, second, own }
     }
 
-    // Adds a block on the pool's own page, or on the claimed one, which is held then. None where
-    // there is neither.
+    // Adds a block on the pool's own page, or on the claimed one, whose frame comes from home. None
+    // where there is neither.
     fn place(
         &mut self,
         choice: Choice,
@@ -60,14 +62,17 @@ impl Holdings {
         class: u32,
         size: u64,
         site: u64,
+        home: &mut Shelf,
     ) -> Option<u64>
         requires formed { IsFormed (rules_in self.old) (state_in self.old) }
         requires is { IsTrue (is_class class) }
         requires class { size_class (rules_in self.old) size ≡ Some class }
         requires room { HasPlace self.old }
         requires page { IsFor self.old.held.items choice.own claim }
+        requires home { IsHome self.old.held.items home.old }
         ensures placed { placed_where (rules_in self.old) (state_in self.old) choice.own claim
             choice.second size site ≡ record { address = result; next = state_in self.new } }
+        ensures home { IsHome self.new.held.items home.new }
         ensures rules { rules_in self.new ≡ rules_in self.old }
     {
         match choice.own {
@@ -75,7 +80,7 @@ impl Holdings {
             None => match claim {
                 Some(claim) => {
                     let page = 32 * claim.zone + claim.first;
-                    self.hold(page);
+                    self.hold(page, home);
                     Some(self.place_on(page, class, choice.second, size, site))
                 }
                 None => None,
@@ -148,7 +153,10 @@ impl Core {
         let class = served(size, self.state.opts.canary);
         let choice = self.state.choose(class);
         let search = self.ask(choice);
-        let address = self.state.place(choice, search.claim, class, size, site);
+        let home = &mut self.home;
+        let address = self
+            .state
+            .place(choice, search.claim, class, size, site, home);
         let reply = block_or_null(self.state.opts.xmalloc, address);
         self.enter(CallEntry {
             who,
@@ -177,7 +185,7 @@ fn block_or_null(xmalloc: bool, address: Option<u64>) -> Reply
 
 // The class of a size that is a chunk's.
 fn served(size: u64, canary: bool) -> u32
-    requires { IsTrue (not (size == 0) && is_some (class_of size canary)) }
+    requires { IsTrue (is_some (class_of size canary)) }
     ensures class { class_of size canary ≡ Some result }
     ensures is { IsTrue (is_class result) }
 {

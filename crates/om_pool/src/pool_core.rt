@@ -4,11 +4,14 @@ ghost use Rattle.om_model.specs.Pool.State.{opening};
 ghost use Rattle.om_pool.specs.CoreKept.{IsCore, HasRoom};
 ghost use Rattle.om_pool.specs.HoldingsView.{rules_in, state_in};
 ghost use Rattle.om_pool.specs.PoolView.{rules_by};
+ghost use Rattle.om_pool.specs.Unasked.{unasked_entry};
 
 use crate::holdings::Holdings;
+use crate::home::all_frames;
 use crate::zones::Zones;
+use om_frame::Shelf;
 use om_geom::MOST_ZONES;
-use om_model::{CallEntry, Entry, Journal, LookList};
+use om_model::{CallEntry, Drawn, Entry, Journal, LookList, Move, Op, Reply, Who};
 use om_opts::Opts;
 use om_words::Words;
 use std::alloc::{AllocError, Global};
@@ -17,6 +20,8 @@ use std::alloc::{AllocError, Global};
 pub(crate) struct Core {
     pub(crate) alloc: Global,
     pub(crate) state: Holdings,
+    /// The frames of the pages that aren't held.
+    pub(crate) home: Shelf,
     /// What the first word gave.
     pub(crate) canary: u8,
     pub(crate) zones: Zones,
@@ -31,13 +36,15 @@ impl Core {
         requires { words.place ≡ 0 }
         ensures kept { IfOk result IsCore }
         ensures rules { IfOk result (λ core. rules_in core.state ≡ rules_by opts words.source) }
-        ensures state { IfOk result (λ core. state_in core.state ≡ opening) }
+        ensures state { IfOk result (λ core. state_in core.state
+            ≡ opening (rules_by opts words.source)) }
         ensures entries { IfOk result (λ core. core.journal.items ≡ []) }
     {
         let word = words.draw();
         Ok(Core {
             alloc,
-            state: Holdings::new(alloc, opts, words),
+            state: Holdings::new(alloc, opts, words)?,
+            home: all_frames(alloc)?,
             canary: (word % 255 + 1) as u8,
             zones: Zones::new(alloc, MOST_ZONES)?,
             room: None,
@@ -71,5 +78,33 @@ impl Core {
         ensures same { self.new ≡ record self.old { journal = self.new.journal } }
     {
         self.journal.push(Entry::Call(entry));
+    }
+
+    /// Adds the entry of a call that asked the zones for nothing.
+    pub(crate) fn enter_unasked(
+        &mut self,
+        who: Who,
+        op: Op,
+        reply: Reply,
+        words: Drawn,
+        release: Option<Move>,
+    )
+        requires short { length self.old.journal.items < 2 ^ 32 - 1 }
+        requires room { 1 ≤ self.old.journal.spare }
+        ensures added { self.new.journal.items ≡ self.old.journal.items
+            ++ Entry.Call (unasked_entry who op reply words release) ∷ [] }
+        ensures same { self.new ≡ record self.old { journal = self.new.journal } }
+    {
+        let looks = LookList::empty(self.alloc);
+        self.enter(CallEntry {
+            who,
+            op,
+            reply,
+            words,
+            looks,
+            taken: None,
+            claim: None,
+            release,
+        });
     }
 }

@@ -1,5 +1,5 @@
 //! What stands at an address.
-ghost use Rattle.std.specs.Prelude.{◌≡◌, ◌*◌, ◌<◌, ◌==◌, IsTrue, Some, true};
+ghost use Rattle.std.specs.Prelude.{◌≡◌, ◌*◌, ◌<◌, ◌==◌, IsTrue, IfSome, is_some, Some, true};
 ghost use Rattle.std.specs.List.{find};
 ghost use Rattle.std.specs.Option.{option_copied};
 ghost use Rattle.om_geom.specs.Addresses.{page_at};
@@ -10,9 +10,9 @@ ghost use Rattle.om_model.specs.Pool.InUse.{Chunk};
 ghost use Rattle.om_model.specs.Pool.Picks.{starts_place};
 ghost use Rattle.om_model.specs.Pool.Standing.{block_at, delayed_at, at_place, on_page, standing};
 ghost use Rattle.om_model.specs.Pool.State.{holds, is_held};
-ghost use Rattle.om_pool.specs.Chunks.{AreChunks, IsOnPage};
+ghost use Rattle.om_pool.specs.Chunks.{IsFormed};
 ghost use Rattle.om_pool.specs.HoldingsView.{rules_in, state_in};
-ghost use Rattle.om_pool.specs.Standings.{standing_of, IsOnPageIfLive};
+ghost use Rattle.om_pool.specs.Standings.{standing_of, IsPlace, IsPlaceIfLive};
 
 use crate::holdings::Holdings;
 use crate::in_use::slot_holds;
@@ -33,32 +33,40 @@ pub(crate) enum Standing {
 impl Holdings {
     /// What stands at the address.
     pub(crate) fn standing(&self, address: u64) -> Standing
-        requires { AreChunks (rules_in self.now) (state_in self.now) }
+        requires { IsFormed (rules_in self.now) (state_in self.now) }
         ensures standing { standing_of result
             ≡ standing (rules_in self.now) (state_in self.now) address }
-        ensures place { IsOnPageIfLive result }
+        ensures place { IsPlaceIfLive self.now.shelf result }
     {
-        match page_of(Addr(address), MOST_ZONES) {
-            Some(page) => {
-                if is_among(&self.held, page.0) {
-                    self.on_page(address, page.0)
-                } else {
-                    Standing::NotHeld
-                }
-            }
+        match self.held_page(address) {
+            Some(page) => self.on_page(address, page),
             None => Standing::NotHeld,
+        }
+    }
+
+    /// The held page that the address is on.
+    pub(crate) fn held_page(&self, address: u64) -> Option<u32>
+        ensures held { holds (rules_in self.now) (state_in self.now) address ≡ is_some result }
+        ensures page { IfSome result (λ page. page ≡ page_at address) }
+        ensures there { IfSome result (λ page. page < zone_pages * most_zones) }
+    {
+        let page = page_of(Addr(address), MOST_ZONES)?.0;
+        if is_among(&self.held, page) {
+            Some(page)
+        } else {
+            None
         }
     }
 
     // The page is held.
     fn on_page(&self, address: u64, page: u32) -> Standing
-        requires chunks { AreChunks (rules_in self.now) (state_in self.now) }
+        requires formed { IsFormed (rules_in self.now) (state_in self.now) }
         requires held { holds (rules_in self.now) (state_in self.now) address ≡ true }
         requires page { page ≡ page_at address }
         requires there { page < zone_pages * most_zones }
         ensures standing { standing_of result
             ≡ standing (rules_in self.now) (state_in self.now) address }
-        ensures place { IsOnPageIfLive result }
+        ensures place { IsPlaceIfLive self.now.shelf result }
     {
         match self.class_on(page) {
             Some(class) => {
@@ -74,11 +82,11 @@ impl Holdings {
 
     // A place of the class begins there.
     fn at_place(&self, address: u64, class: u32) -> Standing
-        requires place { IsOnPage (record { address = address; class = class }) }
+        requires place { IsPlace self.now.shelf (record { address = address; class = class }) }
         ensures standing { standing_of result
             ≡ at_place class address (block_at (state_in self.now) address)
             (delayed_at (state_in self.now) address) }
-        ensures place { IsOnPageIfLive result }
+        ensures place { IsPlaceIfLive self.now.shelf result }
     {
         match self.delayed_at(address) {
             Some(place) => Standing::DelayedPlace { place },

@@ -9,13 +9,13 @@ use Rattle.std.proofs.lemmas.Option.{cond_some}
 use Rattle.std.proofs.lemmas.List.Elements.{All-push, All-weaker, All-nil}
 use Rattle.std.proofs.lemmas.List.Sums.{prefix_len-le-length}
 use Rattle.omalloc.specs.declared.command.Command.{Command}
-use Rattle.omalloc.specs.declared.command.Command.TheVariants.{Malloc, Free}
+use Rattle.omalloc.specs.declared.command.Command.TheVariants.{Malloc, Free, Load, Store}
 use Rattle.omalloc.specs.declared.script.Request.{Request}
 use Rattle.omalloc.specs.declared.script.Request.TheVariants as request
-use Rattle.omalloc.specs.Script.{ScriptText, most_commands, most_names, IsCommand, IsScript}
+use Rattle.omalloc.specs.Script.{ScriptText, most_commands, most_names, greatest_offset, greatest_byte, IsCommand, IsScript}
 use Rattle.om_geom.specs.Numbers.{largest_class}
 use Rattle.om_model.specs.Scripts.Names.{is_digit, is_name}
-use Rattle.omalloc.specs.AcceptedInput.{number_of, size_of, title_of, request_of, command_of, place_of, with_name, with_command, with_line, ended, script_from, titled, script_of_lines, script_of, text_lines, fields_of}
+use Rattle.omalloc.specs.AcceptedInput.{number_of, number_to, only_number, free_of, store_of, asked_of, title_of, request_of, command_of, place_of, with_name, with_command, with_line, ended, script_from, titled, script_of_lines, script_of, text_lines, fields_of}
 
 and_front : (a b : Bool) → (a && b) ≡ true → a ≡ true
 and_front true b e = refl
@@ -26,42 +26,82 @@ and_back true b e = e
 and_back false b e = cc
 
 abbrev IsSized : Request → Type 0
-IsSized (request.Malloc size) = (1 ≤ size) × (size ≤ largest_class)
-IsSized request.Free = Unit {0}
+IsSized (request.Malloc size) = size ≤ largest_class
+IsSized other = Unit {0}
 
-size_sized : (word : List ℕ) (n : ℕ) → size_of word ≡ Some n → (1 ≤ n) × (n ≤ largest_class)
-size_sized word n e =
-    let found = cond_some (list_all is_digit word && leb 1 (number_of word) && leb (number_of word) largest_class) (number_of word) n e in
-    let low = leb-true 1 (number_of word) (and_back (list_all is_digit word) (leb 1 (number_of word)) (and_front (list_all is_digit word && leb 1 (number_of word)) (leb (number_of word) largest_class) found.0)) in
-    let high = leb-true (number_of word) largest_class (and_back (list_all is_digit word && leb 1 (number_of word)) (leb (number_of word) largest_class) found.0) in
-    subst (λ k. (1 ≤ k) × (k ≤ largest_class)) found.1 (low, high)
+number_small : (greatest : ℕ) (field : List ℕ) (n : ℕ) → number_to greatest field ≡ Some n → n ≤ greatest
+number_small greatest field n e =
+    let found = cond_some (leb 1 (length field) && list_all is_digit field && leb (number_of field) greatest) (number_of field) n e in
+    subst (λ k. k ≤ greatest) found.1
+    (leb-true (number_of field) greatest (and_back (leb 1 (length field) && list_all is_digit field) (leb (number_of field) greatest) found.0))
+
+only_small : (greatest : ℕ) (fields : List (List ℕ)) (n : ℕ) → only_number greatest fields ≡ Some n → n ≤ greatest
+only_small greatest [] n e = cc
+only_small greatest (field ∷ []) n e = number_small greatest field n e
+only_small greatest (field ∷ more ∷ fields) n e = cc
 
 some_is : {A : Type 0} (x y : A) → Some x ≡ Some y → x ≡ y
 some_is x y e = cc
 
-malloc_sized : (b : Bool) (name : List ℕ) (size : Option ℕ) (r : List ℕ × Request) → ((n : ℕ) → size ≡ Some n → (1 ≤ n) × (n ≤ largest_class)) → cond b (option_map (λ n. (name, request.Malloc n)) size) None ≡ Some r → IsSized r.1
-malloc_sized true name (Some n) r sized e = subst (λ (q : List ℕ × Request). IsSized q.1) (some_is (name, request.Malloc n) r e) (sized n refl)
-malloc_sized true name None r sized e = cc
-malloc_sized false name size r sized e = cc
+malloc_size : (number : Option ℕ) (size : ℕ) → option_map request.Malloc number ≡ Some (request.Malloc size) → number ≡ Some size
+malloc_size (Some n) size e = cc
+malloc_size None size e = cc
 
-free_sized : (b : Bool) (name : List ℕ) (r : List ℕ × Request) → cond b (Some (name, request.Free)) None ≡ Some r → IsSized r.1
-free_sized true name r e = subst (λ (q : List ℕ × Request). IsSized q.1) (some_is (name, request.Free) r e) tt
-free_sized false name r e = cc
+-- no other keyword asks for a block
+free_other : (fields : List (List ℕ)) (size : ℕ) → free_of fields ≡ Some (request.Malloc size) → ⊥
+free_other [] size e = cc
+free_other (field ∷ fields) size e = cc
+
+load_other : (number : Option ℕ) (size : ℕ) → option_map request.Load number ≡ Some (request.Malloc size) → ⊥
+load_other (Some n) size e = cc
+load_other None size e = cc
+
+store_other : (fields : List (List ℕ)) (size : ℕ) → store_of fields ≡ Some (request.Malloc size) → ⊥
+store_other [] size e = cc
+store_other (off ∷ fields) size e = by (number_to greatest_offset off) (only_number greatest_byte fields) e
+  where
+    by : (at byte : Option ℕ) → option_and_then (λ a. option_map (request.Store a) byte) at ≡ Some (request.Malloc size) → ⊥
+    by (Some a) (Some b) same = cc
+    by (Some a) None same = cc
+    by None byte same = cc
+
+asked_sized : (keyword : List ℕ) (fields : List (List ℕ)) (r : Request) → asked_of keyword fields ≡ Some r → IsSized r
+asked_sized keyword fields (request.Malloc size) e =
+    by (bytes_eq keyword (codes "malloc")) (bytes_eq keyword (codes "free")) (bytes_eq keyword (codes "load")) (bytes_eq keyword (codes "store")) e
+  where
+    by : (malloc free load store : Bool) → cond malloc (option_map request.Malloc (only_number largest_class fields)) (cond free (free_of fields)
+        (cond load (option_map request.Load (only_number greatest_offset fields)) (cond store (store_of fields) None))) ≡ Some (request.Malloc size) → size ≤ largest_class
+    by true free load store same = only_small largest_class fields size (malloc_size (only_number largest_class fields) size same)
+    by false true load store same = absurd (free_other fields size same)
+    by false false true store same = absurd (load_other (only_number greatest_offset fields) size same)
+    by false false false true same = absurd (store_other fields size same)
+    by false false false false same = cc
+asked_sized keyword fields request.Free e = tt
+asked_sized keyword fields (request.Load off) e = tt
+asked_sized keyword fields (request.Store off byte) e = tt
+
+named_sized : (named : Bool) (name : List ℕ) (asked : Option Request) (r : List ℕ × Request) → ((q : Request) → asked ≡ Some q → IsSized q)
+    → cond named (option_map (λ q. (name, q)) asked) None ≡ Some r → IsSized r.1
+named_sized true name (Some q) r sized e = subst (λ (p : List ℕ × Request). IsSized p.1) (some_is (name, q) r e) (sized q refl)
+named_sized true name None r sized e = cc
+named_sized false name asked r sized e = cc
 
 request_sized : (words : List (List ℕ)) (r : List ℕ × Request) → request_of words ≡ Some r → IsSized r.1
 request_sized [] r e = cc
 request_sized (k ∷ []) r e = cc
-request_sized (k ∷ n ∷ []) r e = free_sized _ n r e
-request_sized (k ∷ n ∷ m ∷ []) r e = malloc_sized _ n (size_of m) r (size_sized m) e
-request_sized (k ∷ n ∷ m ∷ w ∷ words) r e = cc
+request_sized (k ∷ n ∷ fields) r e = named_sized (is_name n) n (asked_of k fields) r (asked_sized k fields) e
 
 more_variables : (n m : ℕ) → n ≤ m → (c : Command) → IsCommand n c → IsCommand m c
-more_variables n m l (Malloc var size site) is = (omega arith, is.1, is.2, is.3)
+more_variables n m l (Malloc var size site) is = (omega arith, is.1, is.2)
 more_variables n m l (Free var) is = omega arith
+more_variables n m l (Load var off) is = omega arith
+more_variables n m l (Store var off byte) is = omega arith
 
 sized_command : (n var : ℕ) (r : Request) → var < n → IsSized r → IsCommand n (command_of var r)
-sized_command n var (request.Malloc size) l sized = (l, sized.0, sized.1, refl)
+sized_command n var (request.Malloc size) l sized = (l, sized, refl)
 sized_command n var request.Free l sized = l
+sized_command n var (request.Load off) l sized = l
+sized_command n var (request.Store off byte) l sized = l
 
 place_le : (names : List (List ℕ)) (name : List ℕ) → place_of names name ≤ length names
 place_le names name = prefix_len-le-length _ names

@@ -6,7 +6,7 @@ use Rattle.std.specs.List.{All, onto_first, slice_split, position_or_len, positi
 use Rattle.std.proofs.lemmas.List.Elements.{All-head, All-tail}
 use Rattle.std.proofs.lemmas.List.Sums.{split_at_first, fails_before_first, passes_at_first, prefix_len-le-length}
 use Rattle.std.proofs.lemmas.List.Splits.{slice_split_first, slice_split_none, length-slice_split}
-use Rattle.omalloc.specs.AcceptedInput.{text_lines, fields_of, title_of, request_of}
+use Rattle.omalloc.specs.AcceptedInput.{text_lines, fields_of, title_of, only_number, free_of}
 
 found_at : (k n i : ℕ) → Some i ≡ cond (ltb k n) (Some k) None → (k ≡ i) × (i < n)
 found_at k n i e = grind (arith, nat_tests)
@@ -89,10 +89,18 @@ no_title k n (w ∷ words) l = refl
 pub title_long : (k n line : List ℕ) → title_of (k ∷ n ∷ fields_of line) ≡ None
 title_long k n line = no_title k n (fields_of line) (fields_of_some line)
 
-no_request : (k n m : List ℕ) (words : List (List ℕ)) → 0 < length words → request_of (k ∷ n ∷ m ∷ words) ≡ None
-no_request k n m [] l = absurd (omega arith)
-no_request k n m (w ∷ words) l = refl
+no_number : (greatest : ℕ) (field : List ℕ) (fields : List (List ℕ)) → 0 < length fields → only_number greatest (field ∷ fields) ≡ None
+no_number greatest field [] l = absurd (omega arith)
+no_number greatest field (more ∷ fields) l = refl
 
--- a line with more words asks nothing
-pub request_long : (k n m line : List ℕ) → request_of (k ∷ n ∷ m ∷ fields_of line) ≡ None
-request_long k n m line = no_request k n m (fields_of line) (fields_of_some line)
+-- a number that other fields follow isn't the only one
+pub number_long : (greatest : ℕ) (field line : List ℕ) → only_number greatest (field ∷ fields_of line) ≡ None
+number_long greatest field line = no_number greatest field (fields_of line) (fields_of_some line)
+
+no_free : (fields : List (List ℕ)) → 0 < length fields → free_of fields ≡ None
+no_free [] l = absurd (omega arith)
+no_free (field ∷ fields) l = refl
+
+-- a free has nothing behind the name
+pub free_long : (line : List ℕ) → free_of (fields_of line) ≡ None
+free_long line = no_free (fields_of line) (fields_of_some line)

@@ -9,7 +9,7 @@ use Rattle.om_words.specs.PlannedWords.{HasWords}
 use Rattle.om_words.specs.declared.plan.WordPlan.{WordPlan}
 use Rattle.om_words.specs.declared.plan.WordPlan.TheVariants.{Listed, Seeded}
 use Rattle.om_model.specs.Output.Head.{Head}
-use Rattle.omalloc.specs.Arguments.{RunArguments, number_to, numbers_of, plan_from, greatest_word, greatest_seed, with_letters, is_value, options_from, run_arguments_of, is_built, head_of, head_of_arguments}
+use Rattle.omalloc.specs.Arguments.{RunArguments, short_number_to, numbers_of, plan_from, greatest_word, greatest_seed, with_letters, is_value, options_from, run_arguments_of, is_built, head_of, head_of_arguments}
 use Rattle.omalloc.specs.Heads.{IsHead}
 
 some_is : {A : Type 0} {x y : A} → Some x ≡ Some y → x ≡ y
@@ -18,7 +18,7 @@ some_is e = cc
 -- as many numbers as parts
 numbers_long : (parts : List (List ℕ)) (numbers : List ℕ) → numbers_of parts ≡ Some numbers → length numbers ≡ length parts
 numbers_long [] numbers e = ap length (sym (some_is e))
-numbers_long (part ∷ parts) numbers e = by (number_to greatest_word part) (numbers_of parts) (numbers_long parts) e
+numbers_long (part ∷ parts) numbers e = by (short_number_to greatest_word part) (numbers_of parts) (numbers_long parts) e
   where
     by : (first : Option ℕ) (rest : Option (List ℕ)) → ((ns : List ℕ) → rest ≡ Some ns → length ns ≡ length parts) →
         option_and_then (λ number. option_map (λ ns. number ∷ ns) rest) first ≡ Some numbers → length numbers ≡ length (part ∷ parts)
@@ -38,8 +38,8 @@ value_has : (value ns : List ℕ) → numbers_of (slice_split (λ b. b == 44) va
 value_has value ns e = omega (arith, numbers_long (slice_split (λ b. b == 44) value) ns e, length-slice_split (λ b. b == 44) value)
 
 option_has : (seed list : Bool) (value : List ℕ) (plan : WordPlan) →
-    cond seed (option_map Seeded (number_to greatest_seed value)) (cond list (option_map Listed (numbers_of (slice_split (λ b. b == 44) value))) None) ≡ Some plan → HasWords plan
-option_has true list value plan e = seeded_has (number_to greatest_seed value) plan e
+    cond seed (option_map Seeded (short_number_to greatest_seed value)) (cond list (option_map Listed (numbers_of (slice_split (λ b. b == 44) value))) None) ≡ Some plan → HasWords plan
+option_has true list value plan e = seeded_has (short_number_to greatest_seed value) plan e
 option_has false true value plan e = listed_has (numbers_of (slice_split (λ b. b == 44) value)) plan (value_has value) e
 option_has false false value plan e = cc
 

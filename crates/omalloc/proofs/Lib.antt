@@ -4,5 +4,6 @@ pub mod ArgumentLists
 pub mod Cuts
 pub mod Heads
 pub mod Names
+pub mod PlainRun
 pub mod ReportText
 pub mod ScriptRun

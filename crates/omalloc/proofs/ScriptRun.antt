@@ -265,8 +265,9 @@ find_last : (p : ℕ → Bool) (xs : List ℕ) (x : ℕ) → p x ≡ true → is
 find_last p [] x here = ap (λ b. is_some (if b then Some x else None)) here
 find_last p (y ∷ ys) x here = first_or (p y) y (find p (ys ++ x ∷ [])) (find_last p ys x here)
 
-pub size_served : (rules : Rules) (size : ℕ) → rules.options.canary ≡ false → 1 ≤ size → size ≤ largest_class → IsTrue (is_served rules size)
-size_served rules size plain some small =
+pub size_served : (rules : Rules) (size : ℕ) → rules.options.canary ≡ false → size ≤ largest_class → IsTrue (is_served rules size)
+size_served rules zero plain small = refl
+size_served rules (suc n) plain small =
     let most : List ℕ = 16 ∷ 32 ∷ 64 ∷ 128 ∷ 256 ∷ 512 ∷ 1024 ∷ [] in
-    let found : is_some (least_class size) ≡ true = find_last (nat_le size) most largest_class (le-leb size largest_class small) in
-    rw (plain, ne_eqb size 0 (λ none. omega arith)) found
+    let found : is_some (least_class (suc n)) ≡ true = find_last (nat_le (suc n)) most largest_class (le-leb (suc n) largest_class small) in
+    rw (plain, ne_eqb (suc n) 0 (λ none. omega arith)) found

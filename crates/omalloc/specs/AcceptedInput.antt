@@ -1,19 +1,19 @@
--- Accepted input. Line 1 is `script NAME`, then come at most 200,000 lines `malloc V N` or `free V`, and
--- the last line is `end`. N is decimal, from 1 to 2048. V and NAME are names, and at most 64 different
--- variables are used. One byte 32 stands between two fields of a line, and none elsewhere. Each line ends with
--- byte 10, the last perhaps without.
+-- Accepted input. Line 1 is `script NAME`, then come at most 200,000 lines `malloc V N`, `free V`, `load V OFF` or
+-- `store V OFF BYTE`, and the last line is `end`. The numbers are decimal: N up to 2048, OFF up to 2^64 - 1, BYTE up to
+-- 255. V and NAME are names, and at most 64 different variables are used. One byte 32 stands between two fields of a
+-- line, and none elsewhere. Each line ends with byte 10, the last perhaps without.
 use Rattle.std.specs.Prelude.{ℕ, ◌≡◌, ◌+◌, ◌-◌, ◌*◌, ◌&&◌, ◌==◌, nat_le, nat_lt, List, [], ◌∷◌, ◌++◌, length, fold, codes, Option, Some, None, Result, Ok, Err, if◌then◌else◌, bytes_eq}
 use Rattle.std.specs.List.{slice_split, onto_first, list_all, position_or_len}
 use Rattle.std.specs.Option.{option_map_or, option_map, option_and_then}
 use Rattle.om_geom.specs.Numbers.{largest_class}
 use Rattle.om_model.specs.Scripts.Names.{is_digit, is_name}
 use Rattle.omalloc.specs.declared.command.Command.{Command}
-use Rattle.omalloc.specs.declared.command.Command.TheVariants.{Malloc, Free}
+use Rattle.omalloc.specs.declared.command.Command.TheVariants.{Malloc, Free, Load, Store}
 use Rattle.omalloc.specs.declared.script.Request.{Request}
 use Rattle.omalloc.specs.declared.script.Request.TheVariants as request
 use Rattle.omalloc.specs.declared.read.TextStop.{TextStop}
 use Rattle.omalloc.specs.declared.read.TextStop.TheVariants.{Refused, Memory}
-use Rattle.omalloc.specs.Script.{ScriptText, most_commands, most_names}
+use Rattle.omalloc.specs.Script.{ScriptText, most_commands, most_names, greatest_offset, greatest_byte}
 
 -- the lines end at each byte 10, and the last one perhaps at the end of the text
 abbrev pub text_lines : List ℕ → List (List ℕ)
@@ -28,27 +28,50 @@ fields_of line = slice_split (λ b. b == 32) line
 abbrev pub number_of : List ℕ → ℕ
 number_of digits = fold (λ n b. 10 * n + (b - 48)) 0 digits
 
--- a size is a number from 1 to 2048
-abbrev pub size_of : List ℕ → Option ℕ
-size_of field =
-    if list_all is_digit field && nat_le 1 (number_of field) && nat_le (number_of field) largest_class then Some (number_of field) else None
+-- one or more digits that stand for a number up to the greatest
+abbrev pub number_to : ℕ → List ℕ → Option ℕ
+number_to greatest field =
+    if nat_le 1 (length field) && list_all is_digit field && nat_le (number_of field) greatest then Some (number_of field) else None
+
+-- such a number where it is the only field
+abbrev pub only_number : ℕ → List (List ℕ) → Option ℕ
+only_number greatest (field ∷ []) = number_to greatest field
+only_number greatest other = None
 
 -- the name that a script's first line gives
 abbrev pub title_of : List (List ℕ) → Option (List ℕ)
 title_of (keyword ∷ name ∷ []) = if bytes_eq keyword (codes "script") && is_name name then Some name else None
 title_of other = None
 
+-- ---- what the fields after the name ask
+
+abbrev pub free_of : List (List ℕ) → Option Request
+free_of [] = Some request.Free
+free_of other = None
+
+abbrev pub store_of : List (List ℕ) → Option Request
+store_of (off ∷ fields) = option_and_then (λ at. option_map (request.Store at) (only_number greatest_byte fields)) (number_to greatest_offset off)
+store_of other = None
+
+-- by the keyword of the line
+abbrev pub asked_of : List ℕ → List (List ℕ) → Option Request
+asked_of keyword fields =
+    if bytes_eq keyword (codes "malloc") then option_map request.Malloc (only_number largest_class fields)
+    else if bytes_eq keyword (codes "free") then free_of fields
+    else if bytes_eq keyword (codes "load") then option_map request.Load (only_number greatest_offset fields)
+    else if bytes_eq keyword (codes "store") then store_of fields
+    else None
+
 -- a request, and the name of the variable that it is for
 abbrev pub request_of : List (List ℕ) → Option (List ℕ × Request)
-request_of (keyword ∷ name ∷ []) =
-    if bytes_eq keyword (codes "free") && is_name name then Some (name, request.Free) else None
-request_of (keyword ∷ name ∷ number ∷ []) =
-    if bytes_eq keyword (codes "malloc") && is_name name then option_map (λ size. (name, request.Malloc size)) (size_of number) else None
+request_of (keyword ∷ name ∷ fields) = if is_name name then option_map (λ asked. (name, asked)) (asked_of keyword fields) else None
 request_of other = None
 
 abbrev pub command_of : ℕ → Request → Command
 command_of var (request.Malloc size) = Malloc var size 0
 command_of var request.Free = Free var
+command_of var (request.Load off) = Load var off
+command_of var (request.Store off byte) = Store var off byte
 
 -- the place of a name among the names; a new one comes after them
 abbrev pub place_of : List (List ℕ) → List ℕ → ℕ

@@ -3,8 +3,8 @@
 -- numbers up to 2^32 - 1 with single commas between them; a number is 1 to 20 decimal digits. Without letters
 -- the options are those of the start, and without a seed or a list the seed is 0. Letters that leave an option
 -- on which isn't built yet are refused.
-use Rattle.std.specs.Prelude.{ℕ, Bool, false, not, ◌&&◌, ◌||◌, ◌==◌, nat_le, List, [], ◌∷◌, length, slice_get, codes, bytes_eq, Option, Some, None, if◌then◌else◌}
-use Rattle.std.specs.List.{slice_split, list_all}
+use Rattle.std.specs.Prelude.{ℕ, Bool, false, not, ◌||◌, ◌==◌, nat_le, List, [], ◌∷◌, length, slice_get, codes, bytes_eq, Option, Some, None, if◌then◌else◌}
+use Rattle.std.specs.List.{slice_split}
 use Rattle.std.specs.Option.{option_map, option_map_or, option_and_then}
 use Rattle.om_geom.specs.Numbers.{most_zones}
 use Rattle.om_opts.specs.Letters.{opt_of, warned_of}
@@ -12,8 +12,7 @@ use Rattle.om_opts.specs.declared.options.Opts.{Opts}
 use Rattle.om_words.specs.declared.plan.WordPlan.{WordPlan}
 use Rattle.om_words.specs.declared.plan.WordPlan.TheVariants.{Listed, Seeded}
 use Rattle.om_model.specs.Output.Head.{Head}
-use Rattle.om_model.specs.Scripts.Names.{is_digit}
-use Rattle.omalloc.specs.AcceptedInput.{number_of}
+use Rattle.omalloc.specs.AcceptedInput.{number_to}
 
 -- the greatest word and the greatest seed
 abbrev pub greatest_word : ℕ
@@ -31,23 +30,21 @@ pub record RunArguments : Type 0 where
   pub letters : List ℕ
   pub plan : WordPlan
 
--- 1 to 20 digits that stand for a number up to the greatest
-abbrev pub number_to : ℕ → List ℕ → Option ℕ
-number_to greatest text =
-    if nat_le 1 (length text) && nat_le (length text) most_digits && list_all is_digit text && nat_le (number_of text) greatest
-    then Some (number_of text) else None
+-- a number up to the greatest, of 1 to 20 digits
+abbrev pub short_number_to : ℕ → List ℕ → Option ℕ
+short_number_to greatest text = if nat_le (length text) most_digits then number_to greatest text else None
 
 -- the numbers of a list, where each of its parts is one
 abbrev pub numbers_of : List (List ℕ) → Option (List ℕ)
 numbers_of [] = Some []
-numbers_of (part ∷ parts) = option_and_then (λ number. option_map (λ numbers. number ∷ numbers) (numbers_of parts)) (number_to greatest_word part)
+numbers_of (part ∷ parts) = option_and_then (λ number. option_map (λ numbers. number ∷ numbers) (numbers_of parts)) (short_number_to greatest_word part)
 
 -- the words of a list with commas between them
 abbrev pub listed_plan : List ℕ → Option WordPlan
 listed_plan list = option_map Listed (numbers_of (slice_split (λ b. b == 44) list))
 
 abbrev pub seeded_plan : List ℕ → Option WordPlan
-seeded_plan seed = option_map Seeded (number_to greatest_seed seed)
+seeded_plan seed = option_map Seeded (short_number_to greatest_seed seed)
 
 -- the plan that an option and its value say
 abbrev pub plan_of : List ℕ → List ℕ → Option WordPlan

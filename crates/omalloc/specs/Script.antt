@@ -4,7 +4,7 @@ use Rattle.std.specs.Prelude.{◌≡◌, ℕ, ◌<◌, ◌≤◌, true, List, le
 use Rattle.om_geom.specs.Numbers.{largest_class}
 use Rattle.om_model.specs.Scripts.Names.{is_name}
 use Rattle.omalloc.specs.declared.command.Command.{Command}
-use Rattle.omalloc.specs.declared.command.Command.TheVariants.{Malloc, Free}
+use Rattle.omalloc.specs.declared.command.Command.TheVariants.{Malloc, Free, Load, Store}
 
 -- the most commands of a script, and the most names
 abbrev pub most_commands : ℕ
@@ -13,6 +13,13 @@ most_commands = 200000
 abbrev pub most_names : ℕ
 most_names = 64
 
+-- the greatest offset, and the greatest byte
+abbrev pub greatest_offset : ℕ
+greatest_offset = 18446744073709551615
+
+abbrev pub greatest_byte : ℕ
+greatest_byte = 255
+
 pub record ScriptText : Type 0 where
   pub name : List ℕ
   pub names : List (List ℕ)
@@ -20,8 +27,10 @@ pub record ScriptText : Type 0 where
 
 -- a command of a script with so many variables
 abbrev pub IsCommand : ℕ → Command → Type 0
-IsCommand variables (Malloc var size site) = (var < variables) × (1 ≤ size) × (size ≤ largest_class) × (site ≡ 0)
+IsCommand variables (Malloc var size site) = (var < variables) × (size ≤ largest_class) × (site ≡ 0)
 IsCommand variables (Free var) = var < variables
+IsCommand variables (Load var off) = var < variables
+IsCommand variables (Store var off byte) = var < variables
 
 -- what holds of every accepted script
 pub record IsScript (script : ScriptText) : Type 0 where

@@ -1,7 +1,7 @@
 -- Script run. Given the replies to its calls, a script takes its commands in order, from number 1 on, with
 -- all variables 0. It ends after its last command, or at the first outcome that is a fault. Its calls stand in
 -- the journals, all of them in phase 0 so far.
-use Rattle.std.specs.Prelude.{◌≡◌, ℕ, ◌+◌, ◌==◌, List, [], ◌∷◌, Option, Some, None, if◌then◌else◌, slice_index, slice_set, replicate, length, map, ◌⊎◌, IsTrue}
+use Rattle.std.specs.Prelude.{◌≡◌, ℕ, ◌+◌, ◌%◌, ◌^◌, ◌==◌, List, [], ◌∷◌, Option, Some, None, if◌then◌else◌, slice_index, slice_set, replicate, length, map, ◌⊎◌, IsTrue}
 use Rattle.std.specs.List.{list_any}
 use Rattle.om_model.specs.declared.entry.Entry.{Entry}
 use Rattle.om_model.specs.declared.operation.Op.{Op}
@@ -15,10 +15,16 @@ use Rattle.om_model.specs.Scripts.Outcomes.{outcome_of, is_fault}
 use Rattle.omalloc.specs.declared.command.Command.{Command}
 use Rattle.omalloc.specs.declared.command.Command.TheVariants as command
 
+-- the address so many bytes after another; behind the greatest number of 64 bits comes 0 again
+abbrev pub at_offset : ℕ → ℕ → ℕ
+at_offset address off = (address + off) % 2 ^ 64
+
 -- the call that a command makes; a free of 0 makes none
 abbrev pub op_of : List ℕ → Command → Option Op
 op_of values (command.Malloc var size site) = Some (op.Malloc size site)
 op_of values (command.Free var) = if slice_index values var == 0 then None else Some (op.Free (slice_index values var))
+op_of values (command.Load var off) = Some (op.Load (at_offset (slice_index values var) off))
+op_of values (command.Store var off byte) = Some (op.Store (at_offset (slice_index values var) off) byte)
 
 -- the number that an allocation leaves in its variable
 abbrev pub given : Outcome → ℕ
@@ -28,7 +34,7 @@ given other = 0
 -- the variables after a command that met no fault
 abbrev pub assigned : List ℕ → Command → Outcome → List ℕ
 assigned values (command.Malloc var size site) o = slice_set values var (given o)
-assigned values (command.Free var) o = values
+assigned values other o = values
 
 -- the calls that a script makes, and its outcomes
 pub record Course : Type 0 where
@@ -65,6 +71,11 @@ run_from number values (c ∷ commands) replies =
 abbrev pub script_run : ℕ → List Command → List Reply → Course
 script_run variables commands replies = run_from 1 (replicate variables 0) commands replies
 
+-- by the last replies to its calls a script with so many variables makes these calls, and has these outcomes
+abbrev pub IsCourse : ℕ → List Command → List (Call × List Reply) → List Outcome → Type 0
+IsCourse variables commands answered outcomes =
+    script_run variables commands (map (λ a. last_reply a.1) answered) ≡ record { calls = map (λ a. a.0) answered; outcomes = outcomes }
+
 -- each command has its outcome, or the run ended at a fault
 abbrev pub IsEnded : List Command → List Outcome → Type 0
 IsEnded commands outcomes = (length outcomes ≡ length commands) ⊎ IsTrue (list_any is_fault outcomes)
@@ -73,6 +84,6 @@ IsEnded commands outcomes = (length outcomes ≡ length commands) ⊎ IsTrue (li
 -- no other calls, it went to its end, and its calls stand in the journals.
 pub record IsScriptRun (pools caller variables : ℕ) (commands : List Command) (journals : List (List Entry)) (outcomes : List Outcome) : Type 0 where
   pub answered : List (Call × List Reply)
-  pub ran : script_run variables commands (map (λ a. last_reply a.1) answered) ≡ record { calls = map (λ a. a.0) answered; outcomes = outcomes }
+  pub ran : IsCourse variables commands answered outcomes
   pub ended : IsEnded commands outcomes
   pub stand : AreCalls pools caller answered journals

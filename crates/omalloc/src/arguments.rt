@@ -1,14 +1,14 @@
 //! The reading of the command line.
 
-ghost use Rattle.std.specs.Prelude.{◌≡◌, ◌==◌, map, string_bytes, Some, None, MatchOption, IfOk, IsErrOf, if◌then◌else◌};
+ghost use Rattle.std.specs.Prelude.{◌≡◌, ◌≤◌, ◌==◌, map, string_bytes, Some, None, IfSome, MatchOption, IfOk, IsErrOf, if◌then◌else◌};
 ghost use Rattle.std.specs.List.{slice_split};
 ghost use Rattle.std.specs.Option.{option_map};
 ghost use Rattle.om_opts.specs.Letters.{opt_of};
-ghost use Rattle.omalloc.specs.Arguments.{number_to, numbers_of, listed_plan, seeded_plan, plan_of, plan_from, is_value, with_letters, options_from, run_arguments_of, is_built, head_of, head_of_arguments};
+ghost use Rattle.omalloc.specs.Arguments.{short_number_to, numbers_of, listed_plan, seeded_plan, plan_of, plan_from, is_value, with_letters, options_from, run_arguments_of, is_built, head_of, head_of_arguments};
 ghost use Rattle.omalloc.specs.Heads.{IsHead};
 ghost use Rattle.om_words.specs.declared.plan.WordPlan.TheVariants.{Listed, Seeded};
 
-use crate::bytes::{are_digits, capped_number, cut_at};
+use crate::bytes::{cut_at, number_to};
 use om_geom::MOST_ZONES;
 use om_model::Head;
 use om_opts::{Opts, parse};
@@ -27,20 +27,15 @@ pub enum ArgumentsStop {
 // The most digits of a number.
 const MOST_DIGITS: usize = 20;
 
-// 1 to 20 digits that stand for a number up to the greatest.
-fn number_to(greatest: u64, text: &[u8]) -> Option<u64>
-    ensures { result ≡ number_to greatest text.now }
+// A number up to the greatest, of 1 to 20 digits.
+fn short_number_to(greatest: u64, text: &[u8]) -> Option<u64>
+    ensures number { result ≡ short_number_to greatest text.now }
+    ensures bound { IfSome result (λ number. number ≤ greatest) }
 {
-    if text.is_empty() || text.len() > MOST_DIGITS || !are_digits(text) {
+    if text.len() > MOST_DIGITS {
         return None;
     }
-    let greatest = u128::from(greatest);
-    let number = capped_number(text, greatest + 1);
-    if number <= greatest {
-        Some(number as u64)
-    } else {
-        None
-    }
+    number_to(greatest, text)
 }
 
 // The numbers of a list with single commas between them.
@@ -52,7 +47,7 @@ fn numbers_of(alloc: Global, list: &[u8]) -> Result<Option<Vec<u32>>, AllocError
     let mut rest = Some(list);
     while let Some(text) = rest {
         let (part, more) = cut_at(text, b',');
-        let Some(number) = number_to(u64::from(u32::MAX), part) else {
+        let Some(number) = short_number_to(u64::from(u32::MAX), part) else {
             return Ok(None);
         };
         numbers.push(number as u32)?;
@@ -71,7 +66,7 @@ fn listed_plan(alloc: Global, list: &[u8]) -> Result<Option<WordPlan>, AllocErro
 fn seeded_plan(seed: &[u8]) -> Option<WordPlan>
     ensures { result ≡ seeded_plan seed.now }
 {
-    let seed = number_to(u64::MAX, seed)?;
+    let seed = short_number_to(u64::MAX, seed)?;
     Some(WordPlan::Seeded(seed))
 }
 

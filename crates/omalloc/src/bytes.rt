@@ -2,7 +2,7 @@
 
 ghost use Rattle.std.specs.Prelude.{◌≡◌, ◌^◌, ◌<◌, ◌≤◌, ◌==◌, [], ◌∷◌, length, min, IfSome, MatchOption, IsTrue};
 ghost use Rattle.std.specs.List.{list_all, position, slice_split};
-ghost use Rattle.omalloc.specs.AcceptedInput.{number_of};
+ghost use Rattle.omalloc.specs.AcceptedInput.{number_of, number_to};
 ghost use Rattle.om_model.specs.Scripts.Names.{is_digit};
 
 /// The place of the first such byte.
@@ -31,14 +31,14 @@ pub(crate) fn is_digit(b: u8) -> bool
     b.is_ascii_digit()
 }
 
-pub(crate) fn are_digits(word: &[u8]) -> bool
+fn are_digits(word: &[u8]) -> bool
     ensures { result ≡ list_all is_digit word.now }
 {
     word.iter().all(|b| is_digit(*b))
 }
 
-/// The number that the digits stand for, and the cap for each greater one.
-pub(crate) fn capped_number(digits: &[u8], cap: u128) -> u128
+// The number that the digits stand for, and the cap for each greater one.
+fn capped_number(digits: &[u8], cap: u128) -> u128
     requires digits { IsTrue (list_all is_digit digits.now) }
     requires cap { cap ≤ 2 ^ 64 }
     ensures { result ≡ min (number_of digits.now) cap }
@@ -48,4 +48,21 @@ pub(crate) fn capped_number(digits: &[u8], cap: u128) -> u128
         number = (10 * number + (*b as u128 - 48)).min(cap);
     }
     number
+}
+
+/// The number up to the greatest that one or more digits stand for.
+pub(crate) fn number_to(greatest: u64, text: &[u8]) -> Option<u64>
+    ensures number { result ≡ number_to greatest text.now }
+    ensures bound { IfSome result (λ number. number ≤ greatest) }
+{
+    if text.is_empty() || !are_digits(text) {
+        return None;
+    }
+    let greatest = u128::from(greatest);
+    let number = capped_number(text, greatest + 1);
+    if number <= greatest {
+        Some(number as u64)
+    } else {
+        None
+    }
 }

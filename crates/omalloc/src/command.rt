@@ -5,4 +5,8 @@ pub enum Command {
     Malloc { var: u32, size: u64, site: u64 },
     /// Frees what the variable holds.
     Free { var: u32 },
+    /// Reads the byte so many bytes behind what the variable holds.
+    Load { var: u32, off: u64 },
+    /// Writes a byte there.
+    Store { var: u32, off: u64, byte: u8 },
 }

@@ -102,12 +102,12 @@ mod tests {
     use std::process::Abort;
     use std::test::Fail;
 
-    /// The line at which a text is refused, 0 where it is not.
-    fn refused_line(rt: &impl Abort, alloc: Global, text: &[u8]) -> u32 {
+    // The text is refused at this line.
+    fn is_refused(rt: &impl Abort, alloc: Global, text: &[u8], at: u32) {
         assert!(rt; text.len() <= INPUT_LIMIT);
         match read(alloc, text) {
-            Err(TextStop::Refused { line }) => line,
-            _ => 0,
+            Err(TextStop::Refused { line }) => assert_eq!(rt; line, at),
+            _ => assert!(rt; false, "not refused at line {at}"),
         }
     }
 
@@ -138,21 +138,13 @@ mod tests {
     fn refuses_at_the_first_bad_line(rt: HostRuntime) -> Result<(), Fail> {
         let names = frees(rt.alloc(), 65)?;
         let long = mallocs(rt.alloc(), 200_001)?;
-        let cases: [(&[u8], u32); 20] = [
+        let cases: [(&[u8], u32); 12] = [
             (b"", 1),
             (b"\n", 1),
             (b"script A\nend\n", 1),
             (b"script a_17_letters_name\nend\n", 1),
             (b"script a b\nend\n", 1),
             (b"script a\n", 2),
-            (b"script a\nmalloc x 2049\nend\n", 2),
-            (b"script a\nmalloc x 0\nend\n", 2),
-            (b"script a\nmalloc x 18446744073709551617\nend\n", 2),
-            (b"script a\nmalloc x  1\nend\n", 2),
-            (b"script a\nmalloc x 1\r\nend\n", 2),
-            (b"script a\nmalloc x 1 2\nend\n", 2),
-            (b"script a\nmalloc x 0x10\nend\n", 2),
-            (b"script a\nmalloc 1x 1\nend\n", 2),
             (b"script a\nfree x\nfree x \nend\n", 3),
             (b"script a\nfree x\nend\n\n", 4),
             (b"script a\nfree x\nend\nend", 4),
@@ -160,9 +152,65 @@ mod tests {
             (&names, 66),
             (&long, 200_002),
         ];
-        for (text, line) in cases {
-            assert_eq!(rt; refused_line(&rt, rt.alloc(), text), line);
+        for (text, at) in cases {
+            is_refused(&rt, rt.alloc(), text, at);
         }
+        Ok(())
+    }
+
+    // A script of this command is refused at it.
+    fn is_no_command(rt: &impl Abort, alloc: Global, command: &str) -> Result<(), Fail> {
+        let text = format!(in alloc; "script a\n{command}\nend\n")?;
+        is_refused(rt, alloc, text.as_bytes(), 2);
+        Ok(())
+    }
+
+    #[test]
+    fn refuses_other_commands(rt: HostRuntime) -> Result<(), Fail> {
+        let commands = [
+            "malloc x 2049",
+            "malloc x 18446744073709551616",
+            "malloc x  1",
+            "malloc x 1\r",
+            "malloc x 1 2",
+            "malloc x 0x10",
+            "malloc 1x 1",
+            "malloc x ",
+            "malloc x",
+            "free x 1",
+            "load x 18446744073709551616",
+            "load x -1",
+            "load x ",
+            "load x",
+            "load x 1 2",
+            "load X 1",
+            "store x 0 256",
+            "store x 18446744073709551616 0",
+            "store x 0 ",
+            "store x 0",
+            "store x 0 1 2",
+            "store x  1",
+            "calloc x 1 1",
+        ];
+        for command in commands {
+            is_no_command(&rt, rt.alloc(), command)?;
+        }
+        Ok(())
+    }
+
+    fn is_accepted(
+        rt: &impl Abort,
+        alloc: Global,
+        text: &[u8],
+        name: &[u8],
+        variables: usize,
+        commands: usize,
+    ) -> Result<(), Fail> {
+        assert!(rt; text.len() <= INPUT_LIMIT);
+        let script = read(alloc, text)?;
+        assert_eq!(rt; script.name(), name);
+        assert_eq!(rt; script.variables(), variables);
+        assert_eq!(rt; script.commands().len(), commands);
         Ok(())
     }
 
@@ -172,37 +220,25 @@ mod tests {
     fn accepts_up_to_the_edges(rt: HostRuntime) -> Result<(), Fail> {
         let names = frees(rt.alloc(), 64)?;
         let long = mallocs(rt.alloc(), 200_000)?;
-        let cases: [(&[u8], &[u8], usize, usize); 6] = [
-            (
-                b"script a\nmalloc x 00000000000000000000002048\nend\n",
-                b"a",
-                1,
-                1,
-            ),
-            (
-                b"script a_name_of_16_let\nmalloc y 1\nend\n",
-                b"a_name_of_16_let",
-                1,
-                1,
-            ),
-            (b"script a\nend\n", b"a", 0, 0),
-            (b"script a\nfree x\nend", b"a", 1, 1),
-            (&names, b"a", 64, 64),
-            (&long, b"a", 1, 200_000),
-        ];
-        for (text, name, variables, commands) in cases {
-            assert!(rt; text.len() <= INPUT_LIMIT);
-            let script = read(rt.alloc(), text)?;
-            assert_eq!(rt; script.name(), name);
-            assert_eq!(rt; script.variables(), variables);
-            assert_eq!(rt; script.commands().len(), commands);
-        }
-        Ok(())
+        let zeros = b"script a\nmalloc x 00000000000000000000002048\nend\n";
+        let longest_name = b"script a_name_of_16_let\nmalloc y 1\nend\n";
+        is_accepted(&rt, rt.alloc(), zeros, b"a", 1, 1)?;
+        is_accepted(&rt, rt.alloc(), longest_name, b"a_name_of_16_let", 1, 1)?;
+        is_accepted(&rt, rt.alloc(), b"script a\nend\n", b"a", 0, 0)?;
+        is_accepted(&rt, rt.alloc(), b"script a\nfree x\nend", b"a", 1, 1)?;
+        is_accepted(&rt, rt.alloc(), &names, b"a", 64, 64)?;
+        is_accepted(&rt, rt.alloc(), &long, b"a", 1, 200_000)
     }
 
     #[test]
     fn reads_the_commands(rt: HostRuntime) -> Result<(), Fail> {
-        let text = b"script a\nmalloc x 00000000000000000000002048\nmalloc y 1\nfree x\nend";
+        let text = b"script a
+malloc x 00000000000000000000002048
+malloc y 0
+load y 00018446744073709551615
+store x 007 0255
+free x
+end";
         let script = read(rt.alloc(), text)?;
         let commands = [
             Command::Malloc {
@@ -212,8 +248,17 @@ mod tests {
             },
             Command::Malloc {
                 var: 1,
-                size: 1,
+                size: 0,
                 site: 0,
+            },
+            Command::Load {
+                var: 1,
+                off: u64::MAX,
+            },
+            Command::Store {
+                var: 0,
+                off: 7,
+                byte: 255,
             },
             Command::Free { var: 0 },
         ];

@@ -1,16 +1,17 @@
 //! A script on a pool of its own.
-ghost use Rattle.std.specs.Prelude.{◌≡◌, ℕ, ◌+◌, ◌-◌, ◌^◌, ◌<◌, ◌≤◌, length, vec_len, IfOk, true, false};
+ghost use Rattle.std.specs.Prelude.{◌≡◌, ◌+◌, ◌-◌, ◌^◌, ◌<◌, ◌≤◌, length, vec_len, IfOk, IsTrue, false};
 ghost use Rattle.std.specs.List.{list_any};
-ghost use Rattle.om_model.specs.Scripts.Outcomes.{outcome_of, is_fault};
-ghost use Rattle.omalloc.specs.ScriptRun.{given};
+ghost use Rattle.om_model.specs.Pool.Journal.{is_served};
+ghost use Rattle.om_model.specs.Scripts.Outcomes.{missed, outcome_of, is_fault};
+ghost use Rattle.omalloc.specs.ScriptRun.{at_offset, given};
 ghost use Rattle.omalloc.specs.Heads.{IsHead};
-ghost use Rattle.omalloc.specs.Run.{IsCommandRun, RanAlone};
+ghost use Rattle.omalloc.specs.Run.{who_of, IsCall, IsCommandRun, RanAlone};
 ghost use Rattle.omalloc.specs.Script.{IsScript, IsCommand};
 
 use crate::command::Command;
 use crate::script::Script;
 use om_geom::Addr;
-use om_model::{Fault, Head, Op, Outcome, Reply, Transcript, Who};
+use om_model::{Fault, Head, Op, Outcome, Reply, Segv, Transcript, Who};
 use om_pool::Pool;
 use std::alloc::{AllocError, Global};
 use std::sync::Wait;
@@ -26,21 +27,32 @@ pub struct Ran {
     pub faulted: bool,
 }
 
-fn outcome_of(reply: Reply) -> Outcome
-    ensures malloc { (size site : ℕ) → result ≡ outcome_of (Op.Malloc size site) reply }
-    ensures free { (addr : ℕ) → result ≡ outcome_of (Op.Free addr) reply }
+// The fault where no pool has the address.
+fn missed(op: Op) -> Fault
+    ensures { result ≡ missed op }
+{
+    match op {
+        Op::Load { .. } | Op::Store { .. } => Fault::Segmentation(Segv::Unmapped),
+        _ => Fault::Bogus,
+    }
+}
+
+// The outcome of a call, by its last reply.
+pub(crate) fn outcome_of(op: Op, reply: Reply) -> Outcome
+    ensures { result ≡ outcome_of op reply }
 {
     match reply {
         Reply::Block(address) => Outcome::Block(address),
         Reply::Null(why) => Outcome::Null(why),
         Reply::Done => Outcome::Done,
         Reply::Byte(byte) => Outcome::Byte(byte),
-        Reply::Miss => Outcome::Fault(Fault::Bogus),
+        Reply::Miss => Outcome::Fault(missed(op)),
         Reply::Fault(fault) => Outcome::Fault(fault),
     }
 }
 
-fn given(outcome: Outcome) -> u64
+// The number that an allocation leaves in its variable.
+pub(crate) fn given(outcome: Outcome) -> u64
     ensures { result ≡ given outcome }
 {
     match outcome {
@@ -49,10 +61,88 @@ fn given(outcome: Outcome) -> u64
     }
 }
 
-fn is_fault(outcome: Outcome) -> bool
+pub(crate) fn is_fault(outcome: Outcome) -> bool
     ensures { result ≡ is_fault outcome }
 {
     matches!(outcome, Outcome::Fault(_))
+}
+
+// The address so many bytes behind another.
+pub(crate) fn at_offset(addr: u64, off: u64) -> u64
+    ensures { result ≡ at_offset addr off }
+{
+    addr.wrapping_add(off)
+}
+
+// The only script's command with this number, which asks the only pool.
+fn who_of(number: u32) -> Who
+    ensures { result ≡ who_of number }
+{
+    Who {
+        caller: 0,
+        command: number,
+        hop: 0,
+    }
+}
+
+fn call_malloc<R: Wait>(
+    rt: &R,
+    pool: &mut Pool,
+    number: u32,
+    size: u64,
+    site: u64,
+) -> Result<Outcome, AllocError>
+    requires short { length pool.old.journal.items < 2 ^ 32 - 1 }
+    requires served { IsTrue (is_served pool.old.rules size) }
+    ensures called { IfOk result (λ outcome. IsCall number (Op.Malloc size site)
+        pool.old.journal.items pool.new.journal.items outcome) }
+    ensures rules { pool.new.rules ≡ pool.old.rules }
+    ensures entries { length pool.new.journal.items ≤ length pool.old.journal.items + 1 }
+{
+    pool.reserve()?;
+    let reply = pool.malloc(rt, who_of(number), size, site);
+    Ok(outcome_of(Op::Malloc { size, site }, reply))
+}
+
+fn call_free<R: Wait>(
+    rt: &R,
+    pool: &mut Pool,
+    number: u32,
+    addr: u64,
+) -> Result<Outcome, AllocError>
+    requires short { length pool.old.journal.items < 2 ^ 32 - 1 }
+    ensures called { IfOk result (λ outcome. IsCall number (Op.Free addr)
+        pool.old.journal.items pool.new.journal.items outcome) }
+    ensures rules { pool.new.rules ≡ pool.old.rules }
+    ensures entries { length pool.new.journal.items ≤ length pool.old.journal.items + 1 }
+{
+    pool.reserve()?;
+    let reply = pool.free(rt, who_of(number), Addr(addr));
+    Ok(outcome_of(Op::Free { addr }, reply))
+}
+
+fn call_load(pool: &mut Pool, number: u32, addr: u64) -> Result<Outcome, AllocError>
+    requires short { length pool.old.journal.items < 2 ^ 32 - 1 }
+    ensures called { IfOk result (λ outcome. IsCall number (Op.Load addr)
+        pool.old.journal.items pool.new.journal.items outcome) }
+    ensures rules { pool.new.rules ≡ pool.old.rules }
+    ensures entries { length pool.new.journal.items ≤ length pool.old.journal.items + 1 }
+{
+    pool.reserve()?;
+    let reply = pool.load(who_of(number), Addr(addr));
+    Ok(outcome_of(Op::Load { addr }, reply))
+}
+
+fn call_store(pool: &mut Pool, number: u32, addr: u64, byte: u8) -> Result<Outcome, AllocError>
+    requires short { length pool.old.journal.items < 2 ^ 32 - 1 }
+    ensures called { IfOk result (λ outcome. IsCall number (Op.Store addr byte)
+        pool.old.journal.items pool.new.journal.items outcome) }
+    ensures rules { pool.new.rules ≡ pool.old.rules }
+    ensures entries { length pool.new.journal.items ≤ length pool.old.journal.items + 1 }
+{
+    pool.reserve()?;
+    let reply = pool.store(who_of(number), Addr(addr), byte);
+    Ok(outcome_of(Op::Store { addr, byte }, reply))
 }
 
 // One command of the only script, asked of the only pool.
@@ -73,25 +163,23 @@ fn run_command<R: Wait>(
     ensures entries { length pool.new.journal.items ≤ length pool.old.journal.items + 1 }
     ensures variables { vec_len values.new ≡ vec_len values.old }
 {
-    let who = Who {
-        caller: 0,
-        command: number,
-        hop: 0,
-    };
     match command {
         Command::Malloc { var, size, site } => {
-            pool.reserve()?;
-            let outcome = outcome_of(pool.malloc(rt, who, size, site));
+            let outcome = call_malloc(rt, pool, number, size, site)?;
             values[var as usize] = given(outcome);
             Ok(outcome)
         }
-        Command::Free { var } => {
-            let addr = values[var as usize];
-            if addr == 0 {
-                return Ok(Outcome::Done);
-            }
-            pool.reserve()?;
-            Ok(outcome_of(pool.free(rt, who, Addr(addr))))
+        Command::Free { var } => match values[var as usize] {
+            0 => Ok(Outcome::Done),
+            addr => call_free(rt, pool, number, addr),
+        },
+        Command::Load { var, off } => {
+            let addr = at_offset(values[var as usize], off);
+            call_load(pool, number, addr)
+        }
+        Command::Store { var, off, byte } => {
+            let addr = at_offset(values[var as usize], off);
+            call_store(pool, number, addr, byte)
         }
     }
 }

@@ -18,6 +18,10 @@ pub enum Request {
     /// The size in bytes.
     Malloc(u64),
     Free,
+    /// The offset in bytes.
+    Load(u64),
+    /// The offset, and the byte that is written.
+    Store(u64, u8),
 }
 
 fn command_of(var: u32, request: Request) -> Command
@@ -26,6 +30,8 @@ fn command_of(var: u32, request: Request) -> Command
     match request {
         Request::Malloc(size) => Command::Malloc { var, size, site: 0 },
         Request::Free => Command::Free { var },
+        Request::Load(off) => Command::Load { var, off },
+        Request::Store(off, byte) => Command::Store { var, off, byte },
     }
 }
 

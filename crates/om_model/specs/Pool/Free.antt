@@ -1,14 +1,15 @@
 -- Free of an address, by what stands there: a miss where the page isn't held; bogus on a free page, on a guard and
 -- inside a page block; a modified pointer where no place begins; already free where the place is free. A delayed
 -- place is freed again. A live place is put off: it enters the slot that a word chooses, and what the slot had is
--- evicted. The pages of a page block become free. A run of pages that becomes free stays with the pool, or is
--- let go where it is surplus.
+-- evicted. The pages of a page block become free. A freed block is filled by the junk level. A run of pages that becomes free
+-- stays with the pool, or is let go where it is surplus.
 use Rattle.std.specs.Prelude.{ℕ, ◌%◌, Bool, false, not, ◌||◌, ◌==◌, nat_le, length, filter, Option, Some, None, slice_index_or, slice_set, if◌then◌else◌}
 use Rattle.om_geom.specs.Addresses.{page_at}
 use Rattle.om_model.specs.Pool.Rules.{Rules, word_at, block_pages}
 use Rattle.om_model.specs.Pool.Runs.{Run}
 use Rattle.om_model.specs.Pool.State.{State, slot_count, drawn_more, without_pages}
 use Rattle.om_model.specs.Pool.InUse.{uses, is_free_page, free_pages}
+use Rattle.om_model.specs.Pool.Junk.{with_freed_place, with_freed_pages}
 use Rattle.om_model.specs.Pool.Steps.{Step, unchanged}
 use Rattle.om_model.specs.Pool.Standing.{Standing, NotHeld, FreePage, PageBlock, InPageBlock, OnGuard, LivePlace, DelayedPlace, FreePlace, Unaligned, standing}
 use Rattle.om_model.specs.declared.block.Block.{Block}
@@ -50,8 +51,12 @@ abbrev pub slot_of : State → ℕ → Option Place
 slot_of state slot = slice_index_or state.slots slot None
 
 -- the place is live no longer, and waits in the slot
-abbrev pub put_off : State → ℕ → Place → State
-put_off state slot place = record (without_block state place.address) { slots = slice_set state.slots slot (Some place) }
+abbrev pub into_slot : State → ℕ → Place → State
+into_slot state slot place = record (without_block state place.address) { slots = slice_set state.slots slot (Some place) }
+
+-- its bytes are filled
+abbrev pub put_off : Rules → State → ℕ → Place → State
+put_off rules state slot place = with_freed_place rules place (into_slot state slot place)
 
 -- done, by so many words
 abbrev pub done_with : ℕ → Freed → Step
@@ -59,7 +64,7 @@ done_with words left = record { reply = Done; words = words; release = left.rele
 
 -- a place is put off to the slot, and what this had is evicted
 abbrev pub moved_to_slot : Rules → State → ℕ → Place → Freed
-moved_to_slot rules state slot place = evicted rules (put_off state slot place) (slot_of state slot)
+moved_to_slot rules state slot place = evicted rules (put_off rules state slot place) (slot_of state slot)
 
 -- a live place is put off to the slot that is drawn
 unfoldable pub delay : Rules → State → Place → Step
@@ -78,10 +83,10 @@ freed_again rules state address = record {
   next = drawn_more 1 state;
 }
 
--- a page block leaves the live blocks: its pages with the guard are a run that becomes free
+-- a page block leaves the live blocks, and its bytes are filled: its pages with the guard are a run that becomes free
 abbrev pub without_page_block : Rules → State → Block → Freed
 without_page_block rules state block =
-    kept_or_let_go rules (without_block state block.address)
+    kept_or_let_go rules (with_freed_pages rules block (without_block state block.address))
     (record { first = page_at block.address; count = block_pages rules block.size })
 
 abbrev pub free_at : Rules → State → ℕ → Standing → Step

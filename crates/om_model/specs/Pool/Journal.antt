@@ -1,7 +1,7 @@
 -- A lawful journal: folded from the opening state, each call has exactly the reply, the words and the
 -- release that its step has, and the zones answered as they may. Phases are numbered 1, 2, .., and change
 -- nothing.
-use Rattle.std.specs.Prelude.{◌≡◌, ℕ, ◌+◌, ◌<◌, ◌≤◌, Bool, false, not, ◌&&◌, List, [], ◌∷◌, length, map, Option, Some, None, IfSome, IsSomeAnd, ◌==◌, if◌then◌else◌}
+use Rattle.std.specs.Prelude.{◌≡◌, ℕ, ◌+◌, ◌<◌, ◌≤◌, Bool, false, List, [], ◌∷◌, length, map, Option, Some, None, IfSome, IsSomeAnd, if◌then◌else◌}
 use Rattle.std.specs.List.{flat_map, range_with_len}
 use Rattle.std.specs.Option.{is_some, option_map}
 use Rattle.om_geom.specs.Addresses.{zone_of}
@@ -14,19 +14,20 @@ use Rattle.om_model.specs.Pool.State.{State, opening, is_held}
 use Rattle.om_model.specs.Pool.Steps.{Wish, Nothing, Search, At, Answers, Step}
 use Rattle.om_model.specs.Pool.Malloc.{malloc_wish, malloc}
 use Rattle.om_model.specs.Pool.Free.{free}
+use Rattle.om_model.specs.Pool.Access.{load, store}
 use Rattle.om_model.specs.declared.looks.Look.{Look}
 use Rattle.om_model.specs.declared.entry.Move.{Move}
 use Rattle.om_model.specs.declared.entry.Entry.{Entry}
 use Rattle.om_model.specs.declared.entry.Entry.TheVariants.{Call, Phase}
 use Rattle.om_model.specs.declared.operation.Op.{Op}
-use Rattle.om_model.specs.declared.operation.Op.TheVariants.{Malloc, Free}
+use Rattle.om_model.specs.declared.operation.Op.TheVariants.{Malloc, Free, Load, Store}
 use Rattle.om_model.specs.declared.operation.Who.{Who}
 
 -- ---- the step of an operation
 
--- the sizes that are served so far: chunks, but for size 0
+-- the sizes that are served so far: chunks
 abbrev pub is_served : Rules → ℕ → Bool
-is_served rules size = not (size == 0) && is_some (size_class rules size)
+is_served rules size = is_some (size_class rules size)
 
 -- what the operation asks of the zones
 abbrev pub wish_of : Rules → State → Op → Wish
@@ -37,6 +38,8 @@ wish_of rules state op = Nothing
 abbrev pub step_of : Rules → State → Op → Answers → Option Step
 step_of rules state (Malloc size site) answers = if is_served rules size then Some (malloc rules state size site answers.claim) else None
 step_of rules state (Free address) answers = Some (free rules state address)
+step_of rules state (Load address) answers = Some (load rules state address)
+step_of rules state (Store address byte) answers = Some (store rules state address byte)
 step_of rules state op answers = None
 
 -- ---- what the zones may answer
@@ -133,7 +136,7 @@ state_from rules state (entry ∷ entries) = state_from rules (after rules state
 
 -- the state that a pool with this journal is in
 abbrev pub state_of : Rules → List Entry → State
-state_of rules entries = state_from rules opening entries
+state_of rules entries = state_from rules (opening rules) entries
 
 abbrev pub IsLawfulFrom : Rules → State → List Entry → Type 0
 IsLawfulFrom rules state [] = Unit {0}
@@ -148,5 +151,5 @@ abbrev pub phase_numbers : List Entry → List ℕ
 phase_numbers entries = flat_map phases_in entries
 
 pub record IsLawful (rules : Rules) (entries : List Entry) : Type 0 where
-  pub calls : IsLawfulFrom rules opening entries
+  pub calls : IsLawfulFrom rules (opening rules) entries
   pub phases : phase_numbers entries ≡ range_with_len 1 (length (phase_numbers entries))

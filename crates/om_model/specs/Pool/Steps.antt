@@ -1,8 +1,8 @@
 -- One step of a pool: what it asks of the zones, what they answered, and what the step does then.
-use Rattle.std.specs.Prelude.{ℕ, List, Option, None, if◌then◌else◌}
+use Rattle.std.specs.Prelude.{◌≡◌, ℕ, Bool, true, false, List, Option, None, if◌then◌else◌}
 use Rattle.om_model.specs.Pool.Rules.{Rules}
 use Rattle.om_model.specs.Pool.Runs.{Run}
-use Rattle.om_model.specs.Pool.State.{State}
+use Rattle.om_model.specs.Pool.State.{State, drawn_more}
 use Rattle.om_model.specs.declared.entry.Move.{Move}
 use Rattle.om_model.specs.declared.looks.Look.{Look}
 use Rattle.om_model.specs.declared.reply.Fault.TheVariants.{OutOfMemory}
@@ -38,3 +38,13 @@ unchanged state answer = record { reply = answer; words = 0; release = None; nex
 -- a null, or where the option says so the fault in its place
 abbrev pub null_or_fault : Rules → Why → Reply
 null_or_fault rules why = if rules.options.xmalloc then reply.Fault (OutOfMemory why) else reply.Null why
+
+-- whether what was asked is denied: by a null or a fault
+abbrev pub is_denied : Reply → Bool
+is_denied (reply.Null why) = true
+is_denied (reply.Fault fault) = true
+is_denied other = false
+
+-- where it is denied, no page is released and nothing changes but the words drawn
+abbrev pub KeepsWhereDenied : State → Step → Type 0
+KeepsWhereDenied state step = is_denied step.reply ≡ true → (step.release ≡ None) × (step.next ≡ drawn_more step.words state)

@@ -346,8 +346,8 @@ fn is_below(callers: u32, entry: &Entry) -> bool
 fn are_below(callers: u32, journal: &Journal) -> bool
     ensures { IsTrue result ↔ AllByRecursion (CallerBelow callers) journal.now.items }
 {
-    for i in 0..journal.len() {
-        if !is_below(callers, journal.entry(i)) {
+    for entry in journal.as_slice() {
+        if !is_below(callers, entry) {
             return false;
         }
     }
@@ -367,6 +367,3 @@ pub fn only_callers(
     let counted = counted(alloc, u64::from(phases.saturating_sub(1)))?;
     Ok(are_counted(&entered, &counted) && are_below(scripts, journal))
 }
-
-#[cfg(test)]
-mod tests;

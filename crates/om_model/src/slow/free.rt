@@ -2,15 +2,17 @@
 ghost use Rattle.std.specs.Prelude.{◌≡◌, ◌^◌, ◌<◌, IfOk};
 ghost use Rattle.om_words.specs.PlannedWords.{HasWords};
 ghost use Rattle.om_model.specs.Output.Head.{rules_of};
-ghost use Rattle.om_model.specs.Pool.Free.{is_surplus, kept_or_let_go, evicted, without_block, drawn_slot, slot_of, put_off, moved_to_slot, done_with, delay, slot_holds, freed_again, without_page_block, free_at, free};
+ghost use Rattle.om_model.specs.Pool.Free.{is_surplus, kept_or_let_go, evicted, without_block, drawn_slot, slot_of, into_slot, put_off, moved_to_slot, done_with, delay, slot_holds, freed_again, without_page_block, free_at, free};
+ghost use Rattle.om_model.specs.Pool.State.{slot_count};
 ghost use Rattle.om_model.specs.Slow.{run_in, standing_in};
 
 use super::in_use::{free_pages, is_free_page, uses};
+use super::junk::{with_freed_pages, with_freed_place};
 use super::rules::{block_pages, word_at};
 use super::standing::{Standing, stands_at};
-use super::state::{State, page_at, without_run};
+use super::state::{State, page_at};
 use super::steps::{Run, Step, unchanged};
-use crate::block::{Block, Place};
+use crate::block::{Block, Place, SLOT_COUNT};
 use crate::content::Head;
 use crate::reply::{Fault, Reply};
 use std::alloc::AllocError;
@@ -44,19 +46,21 @@ fn is_surplus(head: &Head, pool: u32, state: &State) -> Result<bool, AllocError>
 
 // A run that became free is let go where it is surplus.
 #[tactic(auto, unfolding(crate::specs::Pool::Free::kept_or_let_go))]
-fn kept_or_let_go(head: &Head, pool: u32, mut state: State, run: Run) -> Result<Freed, AllocError>
+fn kept_or_let_go(head: &Head, pool: u32, state: State, run: Run) -> Result<Freed, AllocError>
     ensures { IfOk result (λ left. left ≡
         kept_or_let_go (rules_of head.now pool) state (run_in run)) }
 {
-    let mut release = None;
     if is_surplus(head, pool, &state)? {
-        state.held = without_run(state.alloc, run, &state.held)?;
-        release = Some(run);
+        Ok(Freed {
+            release: Some(run),
+            next: state.without_pages(run)?,
+        })
+    } else {
+        Ok(Freed {
+            release: None,
+            next: state,
+        })
     }
-    Ok(Freed {
-        release,
-        next: state,
-    })
 }
 
 // After a place left its slot, its page becomes free where nothing touches it any more.
@@ -95,20 +99,34 @@ fn drawn_slot(head: &Head, pool: u32, state: &State) -> usize
     requires few { state.now.drawn < 2 ^ 63 }
     ensures { result ≡ drawn_slot (rules_of head.now pool) state.now }
 {
-    word_at(head, pool, state.drawn) as usize % 16
+    word_at(head, pool, state.drawn) as usize % SLOT_COUNT
 }
 
-fn put_off(state: &State, slot: usize, place: Place) -> Result<State, AllocError>
-    requires { slot < 16 }
-    ensures { IfOk result (λ next. next ≡ put_off state.now slot place) }
+fn into_slot(state: &State, slot: usize, place: Place) -> Result<State, AllocError>
+    requires { slot < slot_count }
+    ensures { IfOk result (λ next. next ≡ into_slot state.now slot place) }
 {
     let mut next = without_block(state, place.address)?;
     next.slots[slot] = Some(place);
     Ok(next)
 }
 
+fn put_off(
+    head: &Head,
+    pool: u32,
+    state: &State,
+    slot: usize,
+    place: Place,
+) -> Result<State, AllocError>
+    requires { slot < slot_count }
+    ensures { IfOk result (λ next. next ≡ put_off (rules_of head.now pool) state.now slot place) }
+{
+    let next = into_slot(state, slot, place)?;
+    Ok(with_freed_place(head, pool, place, next))
+}
+
 fn slot_of(state: &State, slot: usize) -> Option<Place>
-    requires { slot < 16 }
+    requires { slot < slot_count }
     ensures { result ≡ slot_of state.now slot }
 {
     state.slots[slot]
@@ -122,11 +140,11 @@ fn moved_to_slot(
     slot: usize,
     place: Place,
 ) -> Result<Freed, AllocError>
-    requires { slot < 16 }
+    requires { slot < slot_count }
     ensures { IfOk result (λ left. left ≡
         moved_to_slot (rules_of head.now pool) state.now slot place) }
 {
-    let next = put_off(state, slot, place)?;
+    let next = put_off(head, pool, state, slot, place)?;
     evicted(head, pool, next, slot_of(state, slot))
 }
 
@@ -198,7 +216,8 @@ fn without_page_block(
     ensures { IfOk result (λ left. left ≡
         without_page_block (rules_of head.now pool) state.now block) }
 {
-    let next = without_block(state, block.address)?;
+    let left = without_block(state, block.address)?;
+    let next = with_freed_pages(head, pool, block, left);
     let run = Run {
         first: page_at(block.address),
         count: block_pages(head, block.size),

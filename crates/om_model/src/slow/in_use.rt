@@ -5,14 +5,14 @@ ghost use Rattle.std.specs.Option.{option_map};
 ghost use Rattle.om_geom.specs.Addresses.{address_of, page_at};
 ghost use Rattle.om_geom.specs.Classes.{stride_of};
 ghost use Rattle.om_model.specs.Output.Head.{rules_of};
-ghost use Rattle.om_model.specs.Pool.InUse.{use_of_place, uses_of_pages, uses_of_block, uses, touches, page_kind, is_free_page, free_pages, begins_at};
+ghost use Rattle.om_model.specs.Pool.InUse.{Pages, use_of_place, data_of, uses_of_pages, uses_of_block, uses, touches, page_kind, is_free_page, free_pages, begins_at};
 ghost use Rattle.om_model.specs.Slow.{kind_in};
 
 use super::rules::size_class;
 use super::state::State;
 use crate::block::{Block, Place};
 use crate::content::Head;
-use om_geom::pages_of;
+use om_geom::{FIRST_ADDRESS, PAGE_SIZE, pages_of};
 use std::alloc::{AllocError, Global};
 use std::marker::Model;
 
@@ -51,7 +51,8 @@ pub(super) fn stride_of(class: u32) -> u32
     if class == 0 { 16 } else { class }
 }
 
-fn use_of_place(place: Place) -> Use
+/// A place in use.
+pub(super) fn use_of_place(place: Place) -> Use
     ensures { result ≡ use_of_place place }
 {
     Use {
@@ -61,22 +62,29 @@ fn use_of_place(place: Place) -> Use
     }
 }
 
+/// The data pages of a block.
+pub(super) fn data_of(block: Block) -> Use
+    ensures { result ≡ record { extent = data_of block; kind = Pages } }
+{
+    Use {
+        first: u128::from(block.address),
+        len: u128::from(PAGE_SIZE) * u128::from(pages_of(block.size)),
+        kind: Kind::Pages,
+    }
+}
+
 // The data pages, and where guards are on the guard behind them.
 fn push_pages(used: &mut Vec<Use>, head: &Head, pool: u32, block: Block) -> Result<(), AllocError>
     ensures { OnOk result (used.new.items ≡ used.old.items ++
         uses_of_pages (rules_of head.now pool) block) }
 {
-    let first = u128::from(block.address);
-    let len = 4096 * u128::from(pages_of(block.size));
-    used.push(Use {
-        first,
-        len,
-        kind: Kind::Pages,
-    })?;
+    let data = data_of(block);
+    let behind = data.first + data.len;
+    used.push(data)?;
     if head.opts.guard {
         used.push(Use {
-            first: first + len,
-            len: 4096,
+            first: behind,
+            len: u128::from(PAGE_SIZE),
             kind: Kind::Guard,
         })?;
     }
@@ -130,7 +138,14 @@ pub fn uses(head: &Head, pool: u32, state: &State) -> Result<Vec<Use>, AllocErro
 pub(super) fn address_of(page: u32) -> u64
     ensures { result ≡ address_of page }
 {
-    65536 + 4096 * u64::from(page)
+    FIRST_ADDRESS + u64::from(PAGE_SIZE) * u64::from(page)
+}
+
+/// The same for pages with greater numbers.
+pub(super) fn first_byte(page: u64) -> u128
+    ensures { result ≡ address_of page }
+{
+    u128::from(FIRST_ADDRESS) + u128::from(PAGE_SIZE) * u128::from(page)
 }
 
 /// The page of the arena on which a byte lies.
@@ -138,15 +153,16 @@ pub(super) fn page_of(byte: u128) -> u64
     requires { byte < 2 ^ 70 }
     ensures { result ≡ page_at byte }
 {
-    (byte.saturating_sub(65536) / 4096) as u64
+    (byte.saturating_sub(u128::from(FIRST_ADDRESS)) / u128::from(PAGE_SIZE)) as u64
 }
 
 /// Whether some byte of the page is in use so.
 pub(super) fn touches(page: u64, one: &Use) -> bool
     ensures { result ≡ touches page one.now }
 {
-    let start = 65536 + 4096 * u128::from(page);
-    start.max(one.first) < (start + 4096).min(one.first + one.len)
+    let start = first_byte(page);
+    let end = start + u128::from(PAGE_SIZE);
+    start.max(one.first) < end.min(one.first + one.len)
 }
 
 /// What a held page is; none for a free page.

@@ -1,14 +1,15 @@
 //! Lawful journals: each call has the reply, the words and the release of its step, and the zones answered as
 //! they may.
-ghost use Rattle.std.specs.Prelude.{◌≡◌, ℕ, ◌+◌, ◌-◌, ◌^◌, ◌<◌, ◌≤◌, ◌↔◌, false, [], length, map, None, IsSome, IsTrue, IfOk, IfSome};
+ghost use Rattle.std.specs.Prelude.{◌≡◌, ℕ, ◌+◌, ◌-◌, ◌^◌, ◌<◌, ◌≤◌, ◌↔◌, false, [], length, map, None, IsSome, IsTrue, IfOk, OnOk, IfSome, ◌++◌};
 ghost use Rattle.std.specs.List.{range_with_len};
 ghost use Rattle.std.specs.Option.{option_map};
 ghost use Rattle.om_geom.specs.Fit.{searched_zone};
+ghost use Rattle.om_geom.specs.Numbers.{zone_pages, most_zones};
 ghost use Rattle.om_words.specs.PlannedWords.{HasWords};
 ghost use Rattle.om_model.specs.Output.Head.{rules_of};
 ghost use Rattle.om_model.specs.Pool.Runs.{run_of};
-ghost use Rattle.om_model.specs.Pool.State.{is_held};
-ghost use Rattle.om_model.specs.Pool.Journal.{is_served, wish_of, step_of, NamesSearched, IsFresh, IsFound, EndsSearch, MayAnswer, answers_of, GivesUp, Agrees, IsLawfulCall, IsLawfulEntry, after, state_from, IsLawfulFrom, phase_numbers, IsLawful};
+ghost use Rattle.om_model.specs.Pool.State.{opening, is_held};
+ghost use Rattle.om_model.specs.Pool.Journal.{is_served, wish_of, step_of, NamesSearched, IsFresh, IsFound, EndsSearch, MayAnswer, answers_of, GivesUp, Agrees, IsLawfulCall, IsLawfulEntry, after, state_from, IsLawfulFrom, phases_in, phase_numbers, IsLawful};
 ghost use Rattle.om_model.specs.Slow.{run_in, wish_in, IsSmallClaim};
 ghost use Rattle.om_model.specs.declared.entry.Entry.TheVariants.{Call};
 
@@ -20,12 +21,13 @@ use crate::entry::{CallEntry, Entry, Move};
 use crate::journal::Journal;
 use crate::looks::LookList;
 use crate::operation::Op;
+use om_geom::ZONE_PAGES;
 use std::alloc::{AllocError, Global};
 
 fn is_served(head: &Head, pool: u32, size: u64) -> bool
     ensures { result ≡ is_served (rules_of head.now pool) size }
 {
-    size != 0 && size_class(head, size).is_some()
+    size_class(head, size).is_some()
 }
 
 // The zone to which a search by the word comes after so many.
@@ -33,7 +35,7 @@ fn searched_zone(zones: u32, word: u32, i: u32) -> u32
     requires { 1 ≤ zones }
     ensures { result ≡ searched_zone zones word i }
 {
-    ((u64::from(word / 32) + u64::from(i)) % u64::from(zones)) as u32
+    ((u64::from(word / ZONE_PAGES) + u64::from(i)) % u64::from(zones)) as u32
 }
 
 fn searched_zones(alloc: Global, zones: u32, word: u32, count: u32) -> Result<Vec<u32>, AllocError>
@@ -49,7 +51,7 @@ fn searched_zones(alloc: Global, zones: u32, word: u32, count: u32) -> Result<Ve
 fn named_zones(alloc: Global, looks: &LookList) -> Result<Vec<u32>, AllocError>
     ensures { IfOk result (λ named. named.items ≡ map (λ look. look.zone) looks.now.items) }
 {
-    looks.as_slice().iter().map(|look| look.zone).collect(alloc)
+    looks.iter().map(|look| look.zone).collect(alloc)
 }
 
 fn are_same(some: &[u32], others: &[u32]) -> bool
@@ -88,12 +90,24 @@ fn is_new(state: &State, first: u64, count: u32) -> bool
     true
 }
 
+// Whether all of its pages are of its zone.
+fn is_inside(made: Move) -> bool
+    ensures { IsTrue result ↔ (made.first + made.count ≤ zone_pages) }
+{
+    u64::from(made.first) + u64::from(made.count) <= u64::from(ZONE_PAGES)
+}
+
+fn first_page(made: Move) -> u64
+    ensures { result ≡ (run_of made).first }
+{
+    u64::from(ZONE_PAGES) * u64::from(made.zone) + u64::from(made.first)
+}
+
 // The claim lies in its zone, on pages that the pool doesn't hold.
 fn is_fresh(state: &State, found: Move) -> bool
     ensures { IsTrue result ↔ IsFresh state.now found }
 {
-    let first = 32 * u64::from(found.zone) + u64::from(found.first);
-    u64::from(found.first) + u64::from(found.count) <= 32 && is_new(state, first, found.count)
+    is_inside(found) && is_new(state, first_page(found), found.count)
 }
 
 fn is_found(
@@ -184,8 +198,7 @@ fn may_answer(
 fn is_run(found: Move, run: Run) -> bool
     ensures { IsTrue result ↔ (run_of found ≡ run_in run) }
 {
-    32 * u64::from(found.zone) + u64::from(found.first) == run.first
-        && u64::from(found.count) == run.count
+    first_page(found) == run.first && u64::from(found.count) == run.count
 }
 
 // Whether the move gives up the run, inside its zone.
@@ -194,9 +207,7 @@ fn gives_up(run: Option<Run>, release: Option<Move>) -> bool
 {
     match release {
         Some(found) => match run {
-            Some(run) => {
-                u64::from(found.first) + u64::from(found.count) <= 32 && is_run(found, run)
-            }
+            Some(run) => is_inside(found) && is_run(found, run),
             None => false,
         },
         None => run.is_none(),
@@ -265,6 +276,8 @@ impl State {
                 }
             }
             Op::Free { addr } => Ok(Some(self.free(head, pool, addr)?)),
+            Op::Load { addr } => Ok(Some(self.load(head, pool, addr)?)),
+            Op::Store { addr, byte } => Ok(Some(self.store(head, pool, addr, byte)?)),
             _ => Ok(None),
         }
     }
@@ -274,7 +287,7 @@ impl State {
         requires words { HasWords head.now.plan }
         requires few { self.now.drawn < 2 ^ 63 - 2 ^ 32 }
         requires some_zone { 1 ≤ head.now.zones }
-        requires few_zones { head.now.zones ≤ 64 }
+        requires few_zones { head.now.zones ≤ most_zones }
         ensures lawful { IfOk result (λ next. IsSome next ↔
             IsLawfulEntry (rules_of head.now pool) self.now entry.now) }
         ensures next { IfOk result (λ next. IfSome next (λ state. state ≡
@@ -295,7 +308,7 @@ impl State {
         requires words { HasWords head.now.plan }
         requires few { self.now.drawn < 2 ^ 63 - 2 ^ 32 }
         requires some_zone { 1 ≤ head.now.zones }
-        requires few_zones { head.now.zones ≤ 64 }
+        requires few_zones { head.now.zones ≤ most_zones }
         ensures lawful { IfOk result (λ next. IsSome next ↔
             IsLawfulCall (rules_of head.now pool) self.now entry.now) }
         ensures next { IfOk result (λ next. IfSome next (λ state. state ≡
@@ -323,7 +336,7 @@ impl State {
         requires words { HasWords head.now.plan }
         requires few { self.now.drawn < 2 ^ 62 }
         requires some_zone { 1 ≤ head.now.zones }
-        requires few_zones { head.now.zones ≤ 64 }
+        requires few_zones { head.now.zones ≤ most_zones }
         ensures lawful { IfOk result (λ next. IsSome next ↔
             IsLawfulFrom (rules_of head.now pool) self.now journal.now.items) }
         ensures next { IfOk result (λ next. IfSome next (λ state. state ≡
@@ -340,6 +353,19 @@ impl State {
     }
 }
 
+// Whether the calls are lawful, from the opening state on.
+fn are_lawful(alloc: Global, head: &Head, pool: u32, journal: &Journal) -> Result<bool, AllocError>
+    requires words { HasWords head.now.plan }
+    requires some_zone { 1 ≤ head.now.zones }
+    requires few_zones { head.now.zones ≤ 64 }
+    ensures { IfOk result (λ lawful. IsTrue lawful ↔ IsLawfulFrom
+        (rules_of head.now pool) (opening (rules_of head.now pool)) journal.now.items) }
+{
+    let opening = State::opening(alloc, head, pool)?;
+    let last = opening.follow_all(head, pool, journal)?;
+    Ok(last.is_some())
+}
+
 /// Whether the journal is a lawful one of the pool with this number.
 pub fn is_lawful(
     alloc: Global,
@@ -349,14 +375,14 @@ pub fn is_lawful(
 ) -> Result<bool, AllocError>
     requires words { HasWords head.now.plan }
     requires some_zone { 1 ≤ head.now.zones }
-    requires few_zones { head.now.zones ≤ 64 }
+    requires few_zones { head.now.zones ≤ most_zones }
     ensures { IfOk result (λ lawful. IsTrue lawful ↔
         IsLawful (rules_of head.now pool) journal.now.items) }
 {
-    let last = State::opening(alloc).follow_all(head, pool, journal)?;
+    let lawful = are_lawful(alloc, head, pool, journal)?;
     let entered = phase_numbers(alloc, journal)?;
     let counted = counted(alloc, entered.len() as u64)?;
-    Ok(last.is_some() && are_counted(&entered, &counted))
+    Ok(lawful && are_counted(&entered, &counted))
 }
 
 /// The numbers of the phases that the journal enters.
@@ -364,12 +390,19 @@ pub(super) fn phase_numbers(alloc: Global, journal: &Journal) -> Result<Vec<u64>
     ensures { IfOk result (λ phases. phases.items ≡ phase_numbers journal.now.items) }
 {
     let mut phases = Vec::new(alloc);
-    for i in 0..journal.len() {
-        if let Entry::Phase(number) = journal.entry(i) {
-            phases.push(u64::from(*number))?;
-        }
+    for entry in journal.as_slice() {
+        push_phase(&mut phases, entry)?;
     }
     Ok(phases)
+}
+
+fn push_phase(phases: &mut Vec<u64>, entry: &Entry) -> Result<(), AllocError>
+    ensures { OnOk result (phases.new.items ≡ phases.old.items ++ phases_in entry.now) }
+{
+    if let Entry::Phase(number) = entry {
+        phases.push(u64::from(*number))?;
+    }
+    Ok(())
 }
 
 /// The numbers from 1 on.

@@ -37,9 +37,12 @@ fn are_true_looks(moves: &[ZoneMove], count: u64, word: Option<u32>, looks: &[Lo
 }
 
 // Whether each look at a zone that the search of the pool's call passed over is true.
-fn has_true_looks(head: &Head, pool: u32, moves: &[ZoneMove], call: &CallEntry) -> bool
-    ensures { IsTrue result ↔ HasTrueLooks (rules_of head.now pool) moves.now (Call call.now) }
+fn has_true_looks(head: &Head, pool: u32, moves: &[ZoneMove], entry: &Entry) -> bool
+    ensures { IsTrue result ↔ HasTrueLooks (rules_of head.now pool) moves.now entry.now }
 {
+    let Entry::Call(call) = entry else {
+        return true;
+    };
     let word = search_word(head, pool, call);
     let count = pages_sought(head, pool, call.op);
     are_true_looks(moves, count, word, call.looks.as_slice())
@@ -49,11 +52,9 @@ fn are_true(head: &Head, pool: u32, moves: &[ZoneMove], journal: &Journal) -> bo
     ensures { IsTrue result ↔
         AllByRecursion (HasTrueLooks (rules_of head.now pool) moves.now) journal.now.items }
 {
-    for i in 0..journal.len() {
-        if let Entry::Call(call) = journal.entry(i) {
-            if !has_true_looks(head, pool, moves, call) {
-                return false;
-            }
+    for entry in journal.as_slice() {
+        if !has_true_looks(head, pool, moves, entry) {
+            return false;
         }
     }
     true
@@ -106,7 +107,7 @@ fn push_move(named: &mut Vec<Named>, made: Option<Move>) -> Result<(), AllocErro
     Ok(())
 }
 
-fn push_named(named: &mut Vec<Named>, call: &CallEntry) -> Result<(), AllocError>
+fn push_call(named: &mut Vec<Named>, call: &CallEntry) -> Result<(), AllocError>
     ensures { OnOk result (named.new.items ≡ named.old.items ++ named_in (Call call.now)) }
 {
     push_taken(named, call.taken)?;
@@ -116,15 +117,22 @@ fn push_named(named: &mut Vec<Named>, call: &CallEntry) -> Result<(), AllocError
     Ok(())
 }
 
+fn push_named(named: &mut Vec<Named>, entry: &Entry) -> Result<(), AllocError>
+    ensures { OnOk result (named.new.items ≡ named.old.items ++ named_in entry.now) }
+{
+    match entry {
+        Entry::Call(call) => push_call(named, call),
+        Entry::Phase(_) => Ok(()),
+    }
+}
+
 // What the journal names, in the order in which it came about.
 fn named_in(alloc: Global, journal: &Journal) -> Result<Vec<Named>, AllocError>
     ensures { IfOk result (λ named. named.items ≡ flat_map named_in journal.now.items) }
 {
     let mut named = Vec::new(alloc);
-    for i in 0..journal.len() {
-        if let Entry::Call(call) = journal.entry(i) {
-            push_named(&mut named, call)?;
-        }
+    for entry in journal.as_slice() {
+        push_named(&mut named, entry)?;
     }
     Ok(named)
 }

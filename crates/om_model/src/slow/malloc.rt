@@ -7,14 +7,16 @@ ghost use Rattle.om_model.specs.Pool.Malloc.{pages_for, words_for, is_too_large,
 ghost use Rattle.om_model.specs.Slow.{wish_in, IsSmallClaim};
 
 use super::in_use::{address_of, uses};
+use super::junk::with_fresh_junk;
 use super::picks::{own_page, own_run, picked_place, place_address};
 use super::rules::{block_pages, size_class, word_at};
-use super::state::{State, with_run};
+use super::state::State;
 use super::steps::{Step, Wish, null_or_fault, unchanged};
 use crate::block::Block;
 use crate::content::Head;
 use crate::entry::Move;
 use crate::reply::{Reply, Why};
+use om_geom::ZONE_PAGES;
 use std::alloc::AllocError;
 use std::marker::Model;
 
@@ -41,7 +43,7 @@ pub(super) fn words_for(head: &Head, pool: u32, size: u64) -> u32
 fn is_too_large(head: &Head, pool: u32, size: u64) -> bool
     ensures { result ≡ is_too_large (rules_of head.now pool) size }
 {
-    size_class(head, size).is_none() && block_pages(head, size) > 32
+    size_class(head, size).is_none() && block_pages(head, size) > u64::from(ZONE_PAGES)
 }
 
 // The page or the run that the pool has, by the next word.
@@ -142,14 +144,15 @@ fn placed_on(
         placed_on (rules_of head.now pool) state page word size site) }
 {
     let address = address_on(head, pool, &state, page, word, size_class(head, size))?;
-    state.live.push(Block {
+    let block = Block {
         address,
         size,
         site,
-    })?;
+    };
+    state.live.push(block)?;
     Ok(Placed {
         address: Some(address),
-        next: state,
+        next: with_fresh_junk(head, pool, block, state),
     })
 }
 
@@ -157,7 +160,7 @@ fn placed_on(
 fn placed_by_claim(
     head: &Head,
     pool: u32,
-    mut state: State,
+    state: State,
     claim: Option<Move>,
     word: u32,
     size: u64,
@@ -173,9 +176,9 @@ fn placed_by_claim(
             next: state,
         });
     };
-    let first = 32 * found.zone + found.first;
-    state.held = with_run(state.alloc, first, found.count, &state.held)?;
-    placed_on(head, pool, state, first, word, size, site)
+    let first = ZONE_PAGES * found.zone + found.first;
+    let next = state.with_pages(first, found.count)?;
+    placed_on(head, pool, next, first, word, size, site)
 }
 
 // The second word is that of a chunk's place.

@@ -2,9 +2,9 @@
 ghost use Rattle.std.specs.Prelude.{◌≡◌, ℕ, ◌+◌, ◌++◌, ◌^◌, ◌<◌, length, IfOk, OnOk};
 ghost use Rattle.om_model.specs.Data.Room.{entries_of};
 ghost use Rattle.om_model.specs.Output.Head.{rules_of};
-ghost use Rattle.om_model.specs.Zones.Moves.{size_asked, pages_sought, search_word, moves_of_call, moves_of, moves_from};
+ghost use Rattle.om_model.specs.Zones.Moves.{size_asked, pages_sought, search_word, moves_of_call, moves_of_entry, moves_of, moves_from};
 
-use super::rules::{block_pages, size_class};
+use super::malloc::{pages_for, words_for};
 use crate::content::Head;
 use crate::entry::{CallEntry, Entry, ZoneMove};
 use crate::journal::Journal;
@@ -55,12 +55,25 @@ fn moves_in(
         moves.items ≡ moves_of (rules_of head.now pool) pool journal.now.items) }
 {
     let mut moves = Vec::new(alloc);
-    for i in 0..journal.len() {
-        if let Entry::Call(call) = journal.entry(i) {
-            push_moves(&mut moves, head, pool, call)?;
-        }
+    for entry in journal.as_slice() {
+        push_entry(&mut moves, head, pool, entry)?;
     }
     Ok(moves)
+}
+
+fn push_entry(
+    moves: &mut Vec<ZoneMove>,
+    head: &Head,
+    pool: u32,
+    entry: &Entry,
+) -> Result<(), AllocError>
+    ensures { OnOk result (moves.new.items ≡
+        moves.old.items ++ moves_of_entry (rules_of head.now pool) pool entry.now) }
+{
+    match entry {
+        Entry::Call(call) => push_moves(moves, head, pool, call),
+        Entry::Phase(_) => Ok(()),
+    }
 }
 
 fn push_moves(
@@ -102,30 +115,23 @@ fn size_asked(op: Op) -> Option<u64>
 }
 
 /// The word by which a call of the pool searches.
-pub(super) fn search_word(head: &Head, _pool: u32, call: &CallEntry) -> Option<u32>
-    ensures { result ≡ search_word (rules_of head.now _pool) call.now }
+pub(super) fn search_word(head: &Head, pool: u32, call: &CallEntry) -> Option<u32>
+    ensures { result ≡ search_word (rules_of head.now pool) call.now }
 {
+    let size = size_asked(call.op)?;
     let words = call.words.as_slice();
-    match size_asked(call.op) {
-        Some(size) => {
-            let placing = if size_class(head, size).is_some() {
-                2
-            } else {
-                1
-            };
-            words.get(words.len().saturating_sub(placing)).copied()
-        }
-        None => None,
-    }
+    let first = words
+        .len()
+        .saturating_sub(words_for(head, pool, size) as usize);
+    words.get(first).copied()
 }
 
 /// The pages that a call of the pool seeks.
-pub(super) fn pages_sought(head: &Head, _pool: u32, op: Op) -> u64
-    ensures { result ≡ pages_sought (rules_of head.now _pool) op }
+pub(super) fn pages_sought(head: &Head, pool: u32, op: Op) -> u64
+    ensures { result ≡ pages_sought (rules_of head.now pool) op }
 {
     match size_asked(op) {
-        Some(size) if size_class(head, size).is_some() => 1,
-        Some(size) => block_pages(head, size),
+        Some(size) => pages_for(head, pool, size),
         None => 0,
     }
 }

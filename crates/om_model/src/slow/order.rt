@@ -7,6 +7,7 @@ ghost use Rattle.om_model.specs.Zones.Order.{is_at, last_version, owner_after, o
 ghost use Rattle.om_model.specs.Zones.Order.{IsLawfulClaim, IsLawfulRelease, IsLawfulMove, IsZoneOrder};
 
 use crate::entry::{Move, ZoneMove};
+use om_geom::ZONE_PAGES;
 
 /// How many moves the zone has.
 pub fn last_version(moves: &[ZoneMove], zone: u32) -> u64
@@ -60,8 +61,9 @@ fn is_clear(moves: &[ZoneMove], zone: u32, version: u64, count: u64, first: u32)
     ensures { result ≡
         is_clear_run (λ bit. is_some (owner moves.now zone version bit)) count first }
 {
-    count <= 32
-        && u64::from(first) + count <= 32
+    let pages = u64::from(ZONE_PAGES);
+    count <= pages
+        && u64::from(first) + count <= pages
         && are_clear(moves, zone, version, first, first + count as u32)
 }
 
@@ -76,8 +78,8 @@ fn are_clear(moves: &[ZoneMove], zone: u32, version: u64, first: u32, end: u32) 
 pub fn fit_at(moves: &[ZoneMove], zone: u32, version: u64, count: u64, word: u32) -> Option<u32>
     ensures { result ≡ fit_at moves.now zone version count word }
 {
-    let start = word % 32;
-    (start..32)
+    let start = word % ZONE_PAGES;
+    (start..ZONE_PAGES)
         .chain(0..start)
         .find(|first| is_clear(moves, zone, version, count, *first))
 }

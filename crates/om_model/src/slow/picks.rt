@@ -8,10 +8,10 @@ ghost use Rattle.om_model.specs.Pool.State.{is_held};
 ghost use Rattle.om_model.specs.Slow.{kind_in};
 
 use super::in_use::{
-    Kind, Use, address_of, is_begun, is_free_page, kind_of, page_of, stride_of, touches,
+    Kind, Use, address_of, first_byte, is_begun, is_free_page, kind_of, page_of, stride_of, touches,
 };
 use super::state::is_held;
-use om_geom::{Class, places, stride};
+use om_geom::{Class, PAGE_SIZE, ZONE_PAGES, places, stride};
 use std::alloc::{AllocError, Global};
 
 /// The first byte of a place of a chunk page.
@@ -28,8 +28,8 @@ pub(super) fn starts_place(class: u32, address: u128) -> bool
     ensures { result ≡ starts_place class address }
 {
     let stride = u128::from(stride_of(class));
-    let offset = address.saturating_sub(65536 + 4096 * u128::from(page_of(address)));
-    offset % stride == 0 && offset / stride < 4096 / stride
+    let offset = address.saturating_sub(first_byte(page_of(address)));
+    offset % stride == 0 && offset / stride < u128::from(PAGE_SIZE) / stride
 }
 
 fn is_free_place(used: &[Use], page: u32, class: u32, place: u32) -> bool
@@ -145,7 +145,8 @@ fn is_free_run(used: &[Use], held: &[u32], count: u64, first: u32) -> bool
     ensures { result ≡ is_free_run used.now held.now count first }
 {
     let first = u64::from(first);
-    first % 32 + count <= 32 && are_free(used, held, first, first + count)
+    let pages = u64::from(ZONE_PAGES);
+    first % pages + count <= pages && are_free(used, held, first, first + count)
 }
 
 /// The lowest run of so many free pages of one zone.

@@ -17,8 +17,8 @@ fn push_entries(out: &mut Vec<u8>, journal: &Journal) -> Result<(), AllocError>
     ensures { OnOk result (out.new.items ≡ out.old.items ++
         flat_map entry_line journal.now.items) }
 {
-    for i in 0..journal.len() {
-        text::push_entry_line(out, journal.entry(i))?;
+    for entry in journal.as_slice() {
+        text::push_entry_line(out, entry)?;
     }
     Ok(())
 }

@@ -1,56 +1,98 @@
 //! Well-formed states: what is in use shares no byte, begins where it may, lies on held pages, and is alike on
-//! each page; the held pages ascend in the arena.
+//! each page; the held pages ascend in the arena, and memory has their bytes.
 ghost use Rattle.std.specs.Prelude.{◌≡◌, ℕ, ◌*◌, ◌<◌, ◌↔◌, true, length, IsSome, IsTrue, IfOk};
 ghost use Rattle.std.specs.List.{AllByRecursion, list_all};
 ghost use Rattle.om_geom.specs.Addresses.{shares_byte};
+ghost use Rattle.om_geom.specs.Classes.{is_class};
 ghost use Rattle.om_geom.specs.Numbers.{zone_pages};
 ghost use Rattle.om_model.specs.Output.Head.{rules_of};
 ghost use Rattle.om_model.specs.Pool.Rules.{size_class};
 ghost use Rattle.om_model.specs.Pool.InUse.{touches};
 ghost use Rattle.om_model.specs.Pool.State.{slot_count, holds};
-ghost use Rattle.om_model.specs.Pool.WellFormed.{EachPair, AreApart, AreAlike, AgreeOnPages, BeginsRight, LiesOn, IsWellFormed};
+ghost use Rattle.om_model.specs.Pool.WellFormed.{EachPair, AreApart, AreAlike, AgreeOnPages, BeginsRight, HasBytes, LiesOn, IsWellFormed};
 ghost use Rattle.om_model.specs.Slow.{kind_in};
 
-use super::in_use::{Kind, Use, kind_of, page_of, touches, uses};
+use super::in_use::{Kind, Use, first_byte, kind_of, page_of, touches, uses};
 use super::picks::starts_place;
 use super::rules::size_class;
-use super::state::State;
-use crate::block::{Block, Place};
+use super::state::{State, is_held};
+use crate::block::{Block, Place, SLOT_COUNT};
 use crate::content::Head;
+use om_geom::{PAGE_SIZE, ZONE_PAGES};
 use std::alloc::AllocError;
 
 impl State {
-    /// Whether the state is a well-formed one. There are always 16 slots.
+    /// Whether the state is a well-formed one. The number of slots is always right.
     pub fn is_well_formed(&self, head: &Head, pool: u32) -> Result<bool, AllocError>
         ensures { IfOk result (λ is. IsTrue is ↔
             IsWellFormed (rules_of head.now pool) self.now) }
     {
         slots_fit(&self.slots);
         let used = uses(head, pool, self)?;
-        let held = are_held(head.zones, &self.held);
+        let held = ascend(&self.held);
+        let bytes = has_its_bytes(head.zones, self);
+        let places = self.delayed()?;
+        let classes = have_classes(&places);
         let chunks = are_chunks(head, pool, &self.live);
         let placed = are_placed(&used);
         let lie = lie_on(head, pool, self, &used);
-        Ok(are_all([held, chunks, placed, lie]))
+        Ok(are_all([held, bytes, classes, chunks, placed, lie]))
     }
 }
 
 // A law of the type: it brings the number of slots into a proof, and computes nothing.
-fn slots_fit(_slots: &[Option<Place>; 16])
+fn slots_fit(_slots: &[Option<Place>; SLOT_COUNT])
     ensures { length _slots.now ≡ slot_count }
 {}
 
-fn are_all(tests: [bool; 4]) -> bool
+fn are_all(tests: [bool; 6]) -> bool
     ensures { result ≡ list_all (λ test. test) tests }
 {
     tests.iter().all(|test| *test)
 }
 
-fn are_held(zones: u32, pages: &[u32]) -> bool
-    ensures { IsTrue result ↔ (EachPair (λ page other. page < other) pages.now
-        × AllByRecursion (λ page. page < zone_pages * zones) pages.now) }
+fn has_bytes(state: &State, page: usize) -> bool
+    ensures { IsTrue result ↔ HasBytes state.now page }
 {
-    ascend(pages) && are_in_arena(zones, pages)
+    let bytes = if is_held(&state.held, page as u64) {
+        PAGE_SIZE as usize
+    } else {
+        0
+    };
+    state.memory.page_len(page) == bytes
+}
+
+// Whether each page of memory has its bytes.
+fn have_bytes(state: &State) -> bool
+    ensures { IsTrue result ↔
+        ((page : ℕ) → page < length state.now.memory → HasBytes state.now page) }
+{
+    for page in 0..state.memory.len() {
+        if !has_bytes(state, page) {
+            return false;
+        }
+    }
+    true
+}
+
+// Whether the held pages lie in the arena, and memory has as many pages as this.
+fn are_in_memory(zones: u32, state: &State) -> bool
+    ensures { IsTrue result ↔
+        (AllByRecursion (λ page. page < zone_pages * zones) state.now.held
+        × (length state.now.memory ≡ zone_pages * zones)) }
+{
+    let pages = u64::from(ZONE_PAGES) * u64::from(zones);
+    are_in_arena(zones, &state.held) && state.memory.len() as u64 == pages
+}
+
+// Whether besides each page of memory has its bytes.
+fn has_its_bytes(zones: u32, state: &State) -> bool
+    ensures { IsTrue result ↔
+        (AllByRecursion (λ page. page < zone_pages * zones) state.now.held
+        × (length state.now.memory ≡ zone_pages * zones)
+        × ((page : ℕ) → HasBytes state.now page)) }
+{
+    are_in_memory(zones, state) && have_bytes(state)
 }
 
 fn are_placed(used: &[Use]) -> bool
@@ -64,10 +106,7 @@ fn are_placed(used: &[Use]) -> bool
 fn are_above(page: u32, others: &[u32]) -> bool
     ensures { IsTrue result ↔ AllByRecursion (λ other. page < other) others.now }
 {
-    let Some((other, others)) = others.split_first() else {
-        return true;
-    };
-    page < *other && are_above(page, others)
+    others.iter().all(|other| page < *other)
 }
 
 fn ascend(pages: &[u32]) -> bool
@@ -82,20 +121,28 @@ fn ascend(pages: &[u32]) -> bool
 fn are_in_arena(zones: u32, pages: &[u32]) -> bool
     ensures { IsTrue result ↔ AllByRecursion (λ page. page < zone_pages * zones) pages.now }
 {
-    let Some((page, others)) = pages.split_first() else {
-        return true;
-    };
-    u64::from(*page) < 32 * u64::from(zones) && are_in_arena(zones, others)
+    let end = u64::from(ZONE_PAGES) * u64::from(zones);
+    pages.iter().all(|page| u64::from(*page) < end)
+}
+
+fn is_class(class: u32) -> bool
+    ensures { result ≡ is_class class }
+{
+    matches!(class, 0 | 16 | 32 | 64 | 128 | 256 | 512 | 1024 | 2048)
+}
+
+fn have_classes(places: &[Place]) -> bool
+    ensures { IsTrue result ↔ AllByRecursion (λ place. IsTrue (is_class place.class)) places.now }
+{
+    places.iter().all(|place| is_class(place.class))
 }
 
 fn are_chunks(head: &Head, pool: u32, live: &[Block]) -> bool
     ensures { IsTrue result ↔ AllByRecursion
         (λ block. IsSome (size_class (rules_of head.now pool) block.size)) live.now }
 {
-    let Some((block, live)) = live.split_first() else {
-        return true;
-    };
-    size_class(head, block.size).is_some() && are_chunks(head, pool, live)
+    live.iter()
+        .all(|block| size_class(head, block.size).is_some())
 }
 
 // A chunk begins where a place does, and what has whole pages at the first byte of a page.
@@ -104,7 +151,7 @@ fn begins_right(one: &Use) -> bool
 {
     match kind_of(one) {
         Kind::Chunk(class) => starts_place(class, one.first),
-        _ => one.first == 65536 + 4096 * u128::from(page_of(one.first)),
+        _ => one.first == first_byte(page_of(one.first)),
     }
 }
 

@@ -39,8 +39,8 @@ fn push_words(out: &mut Vec<u8>, words: &Drawn) -> Result<(), AllocError>
         return Ok(());
     }
     out.extend_from_slice(b" w")?;
-    for i in 0..words.len() {
-        push_word(out, words.word(i))?;
+    for word in words.as_slice() {
+        push_word(out, *word)?;
     }
     Ok(())
 }
@@ -71,8 +71,8 @@ fn push_looks(out: &mut Vec<u8>, looks: &LookList) -> Result<(), AllocError>
         return Ok(());
     }
     out.extend_from_slice(b" look")?;
-    for i in 0..looks.len() {
-        push_look(out, looks.look(i))?;
+    for look in looks.as_slice() {
+        push_look(out, *look)?;
     }
     Ok(())
 }

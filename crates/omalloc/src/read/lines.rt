@@ -1,12 +1,12 @@
 //! Lines and their fields: slices of the text, cut and judged one by one.
 
-ghost use Rattle.std.specs.Prelude.{◌≡◌, ◌<◌, [], ◌∷◌, length, IfSome, MatchOption};
+ghost use Rattle.std.specs.Prelude.{◌≡◌, ◌<◌, ◌≤◌, [], ◌∷◌, length, IfSome, MatchOption};
 ghost use Rattle.std.specs.List.{list_all};
 ghost use Rattle.std.specs.Option.{option_map, option_copied};
-ghost use Rattle.omalloc.specs.AcceptedInput.{text_lines, fields_of, size_of, title_of, request_of};
+ghost use Rattle.omalloc.specs.AcceptedInput.{text_lines, fields_of, only_number, store_of, asked_of, title_of, request_of};
 ghost use Rattle.om_model.specs.Scripts.Names.{is_letter, is_name_byte, is_name};
 
-use crate::bytes::{are_digits, capped_number, cut_at, first_place, is_digit};
+use crate::bytes::{cut_at, first_place, is_digit, number_to};
 use crate::script::Request;
 use om_geom::LARGEST_CLASS;
 
@@ -61,21 +61,6 @@ fn is_name(field: &[u8]) -> bool
     }
 }
 
-fn size_of(field: &[u8]) -> Option<u64>
-    ensures { result ≡ size_of field.now }
-{
-    if !are_digits(field) {
-        return None;
-    }
-    let largest = u128::from(LARGEST_CLASS);
-    let size = capped_number(field, largest + 1);
-    if 1 <= size && size <= largest {
-        Some(size as u64)
-    } else {
-        None
-    }
-}
-
 /// The script's name, where the line is `script NAME`.
 #[tactic(auto, using(crate::proofs::Cuts::title_long))]
 pub fn title_of(line: &[u8]) -> Option<&[u8]>
@@ -99,49 +84,67 @@ fn named<'a>(keyword: &[u8], name: &'a [u8]) -> Option<&'a [u8]>
     }
 }
 
+// The number up to the greatest that is the only field.
+#[tactic(auto, using(crate::proofs::Cuts::number_long))]
+fn only_number(greatest: u64, fields: &[u8]) -> Option<u64>
+    ensures number { result ≡ only_number greatest (fields_of fields.now) }
+    ensures bound { IfSome result (λ number. number ≤ greatest) }
+{
+    let (field, more) = cut_field(fields);
+    match more {
+        None => number_to(greatest, field),
+        Some(_) => None,
+    }
+}
+
+fn store_of(fields: &[u8]) -> Option<Request>
+    ensures { result ≡ store_of (fields_of fields.now) }
+{
+    let (off, more) = cut_field(fields);
+    let off = number_to(u64::MAX, off)?;
+    let byte = only_number(u64::from(u8::MAX), more?)?;
+    Some(Request::Store(off, byte as u8))
+}
+
+// What a keyword asks with nothing behind the name.
+fn asked_alone(keyword: &[u8]) -> Option<Request>
+    ensures { result ≡ asked_of keyword.now [] }
+{
+    if keyword == b"free".as_slice() {
+        Some(Request::Free)
+    } else {
+        None
+    }
+}
+
+// What a keyword asks with these fields behind the name.
+#[tactic(auto, using(crate::proofs::Cuts::free_long))]
+fn asked_with(keyword: &[u8], fields: &[u8]) -> Option<Request>
+    ensures { result ≡ asked_of keyword.now (fields_of fields.now) }
+{
+    if keyword == b"malloc".as_slice() {
+        Some(Request::Malloc(only_number(u64::from(LARGEST_CLASS), fields)?))
+    } else if keyword == b"load".as_slice() {
+        Some(Request::Load(only_number(u64::MAX, fields)?))
+    } else if keyword == b"store".as_slice() {
+        store_of(fields)
+    } else {
+        None
+    }
+}
+
 /// The name of the variable, and what is asked for it.
 pub fn request_of(line: &[u8]) -> Option<(&[u8], Request)>
     ensures { option_map (λ r. (r.0.now, r.1)) result ≡ request_of (fields_of line.now) }
 {
     let (keyword, rest) = cut_field(line);
     let (name, more) = cut_field(rest?);
-    match more {
-        None => free_of(keyword, name),
-        Some(more) => malloc_line(keyword, name, more),
+    if !is_name(name) {
+        return None;
     }
-}
-
-fn free_of<'a>(keyword: &[u8], name: &'a [u8]) -> Option<(&'a [u8], Request)>
-    ensures { option_map (λ r. (r.0.now, r.1)) result
-        ≡ request_of (keyword.now ∷ name.now ∷ []) }
-{
-    if keyword == b"free".as_slice() && is_name(name) {
-        Some((name, Request::Free))
-    } else {
-        None
-    }
-}
-
-#[tactic(auto, using(crate::proofs::Cuts::request_long))]
-fn malloc_line<'a>(keyword: &[u8], name: &'a [u8], rest: &[u8]) -> Option<(&'a [u8], Request)>
-    ensures { option_map (λ r. (r.0.now, r.1)) result
-        ≡ request_of (keyword.now ∷ name.now ∷ fields_of rest.now) }
-{
-    let (number, more) = cut_field(rest);
-    match more {
-        None => malloc_of(keyword, name, number),
-        Some(_) => None,
-    }
-}
-
-fn malloc_of<'a>(keyword: &[u8], name: &'a [u8], number: &[u8]) -> Option<(&'a [u8], Request)>
-    ensures { option_map (λ r. (r.0.now, r.1)) result
-        ≡ request_of (keyword.now ∷ name.now ∷ number.now ∷ []) }
-{
-    if keyword == b"malloc".as_slice() && is_name(name) {
-        let size = size_of(number)?;
-        Some((name, Request::Malloc(size)))
-    } else {
-        None
-    }
+    let request = match more {
+        None => asked_alone(keyword)?,
+        Some(fields) => asked_with(keyword, fields)?,
+    };
+    Some((name, request))
 }

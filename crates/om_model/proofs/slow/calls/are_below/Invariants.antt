@@ -3,5 +3,5 @@ use Rattle.std.specs.List.{AllByRecursion}
 use Rattle.om_model.specs.Scripts.Calls.{CallerBelow}
 use Rattle.om_model.proofs.slow.calls.are_below.Given as goal
 
-abbrev pub invariant-loop-i : goal.invariant-loop-i
-invariant-loop-i l = AllByRecursion (CallerBelow l.callers) (take l.i l.journal.items)
+abbrev pub invariant-loop-entry : goal.invariant-loop-entry
+invariant-loop-entry l = AllByRecursion (CallerBelow l.callers) (take l.entry-index l.journal.items)

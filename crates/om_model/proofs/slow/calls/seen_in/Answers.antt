@@ -1,4 +1,4 @@
-use Rattle.std.proofs.Common.{◌≡◌, ◌+◌, ◌++◌, drop, [], sym, ap, ◌∙◌, append-nil, arith}
+use Rattle.std.proofs.Common.{◌+◌, ◌++◌, drop, sym, ap, ◌∙◌, append-nil, arith}
 use Rattle.om_model.specs.Scripts.Calls.{seen_from}
 use Rattle.om_model.proofs.PlainJournals.{drop-at, drop-all}
 use Rattle.om_model.proofs.slow.calls.seen_in.Goals as goal

@@ -3,5 +3,5 @@ use Rattle.om_model.specs.Output.Head.{rules_of}
 use Rattle.om_model.specs.Zones.Moves.{moves_of}
 use Rattle.om_model.proofs.slow.moves.moves_in.Given as goal
 
-abbrev pub invariant-loop-i : goal.invariant-loop-i
-invariant-loop-i l = l.moves.items ≡ moves_of (rules_of l.head l.pool) l.pool (take l.i l.journal.items)
+abbrev pub invariant-loop-entry : goal.invariant-loop-entry
+invariant-loop-entry l = l.moves.items ≡ moves_of (rules_of l.head l.pool) l.pool (take l.entry-index l.journal.items)

@@ -1,5 +1,5 @@
 use Rattle.std.proofs.Common.{◌≡◌}
-use Rattle.om_words.specs.DrawnWords.{WordSource, seeded}
+use Rattle.om_words.specs.DrawnWords.{seeded}
 use Rattle.om_model.proofs.slow.rules.seeded_word.Given as goal
 
 abbrev pub invariant-loop : goal.invariant-loop

@@ -1,4 +1,4 @@
-use Rattle.std.proofs.Common.{◌++◌, ◌∙◌, ap, codes, length}
+use Rattle.std.proofs.Common.{◌++◌, codes, length}
 use Rattle.std.specs.Fmt.{decimal}
 use Rattle.std.proofs.lemmas.Result.{IfOk-equal}
 use Rattle.om_model.specs.Output.Text.{board_entry_text, board_lines}

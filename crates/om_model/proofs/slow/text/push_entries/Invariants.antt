@@ -3,5 +3,5 @@ use Rattle.std.specs.List.{flat_map}
 use Rattle.om_model.specs.Output.Text.{entry_line}
 use Rattle.om_model.proofs.slow.text.push_entries.Given as goal
 
-abbrev pub invariant-loop-i : goal.invariant-loop-i
-invariant-loop-i l = l.out.items ≡ l.initial.out.items ++ flat_map entry_line (take l.i l.journal.items)
+abbrev pub invariant-loop-entry : goal.invariant-loop-entry
+invariant-loop-entry l = l.out.items ≡ l.initial.out.items ++ flat_map entry_line (take l.entry-index l.journal.items)

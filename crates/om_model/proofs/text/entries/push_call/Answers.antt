@@ -1,4 +1,4 @@
-use Rattle.std.proofs.Common.{◌≡◌, ◌∙◌, ◌++◌, ap}
+use Rattle.std.proofs.Common.{◌∙◌, ◌++◌, ap}
 use Rattle.std.proofs.lemmas.Result.{IfOk-equal}
 use Rattle.om_model.specs.Data.CallEntry.{CallEntry}
 use Rattle.om_model.specs.Output.Text.{call_text}

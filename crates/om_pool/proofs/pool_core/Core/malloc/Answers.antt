@@ -3,6 +3,7 @@ use Rattle.om_model.specs.Pool.Malloc.{placed_where}
 use Rattle.om_model.specs.Pool.Rules.{Rules}
 use Rattle.om_model.specs.declared.entry.Entry.TheVariants.{Call}
 use Rattle.om_model.specs.declared.operation.Op.TheVariants.{Malloc}
+use Rattle.om_pool.specs.Home.{IsHome}
 use Rattle.om_pool.specs.HoldingsView.{rules_in, state_in}
 use Rattle.om_pool.specs.Placing.{IsFor, reply_for}
 use Rattle.om_pool.specs.Zones.{ZoneTable, IsAsked}
@@ -10,7 +11,7 @@ use Rattle.om_pool.specs.declared.holdings.Holdings.{Holdings}
 use Rattle.om_pool.specs.declared.pool_core.Core.{Core}
 use Rattle.om_pool.proofs.CoreLaws.{core_formed, core_drawn, entry_with, kept, taken}
 use Rattle.om_pool.proofs.Formed.{formed-drawn}
-use Rattle.om_pool.proofs.MallocLaws.{is-for, own-low, malloc-does}
+use Rattle.om_pool.proofs.MallocLaws.{is-for, own-is, malloc-does}
 use Rattle.om_pool.proofs.pool_core.Core.malloc.Goals as goal
 
 pub choose-choice-requires-clause-formed : goal.choose-choice-requires-clause-formed
@@ -32,8 +33,13 @@ place-address-requires-clause-page c =
     subst P (sym drawn)
     (is-for (rules_in old.state) old.state.held.items old.zones c.ask-search.new.self.zones own c.choose-choice.result.first c.ask-search.result.looks.items c.ask-search.result.claim
     c.requires.kept.zones.zones c.requires.kept.zones.pages
-    (own-low (rules_in old.state) (state_in old.state) c.served-class.result _ own (core_formed old c.requires.kept).arena c.choose-choice.ensures.own)
+    (own-is (rules_in old.state) (state_in old.state) c.served-class.result _ own (core_formed old c.requires.kept).arena c.choose-choice.ensures.own)
     c.ask-search.ensures.asked)
+
+pub place-address-requires-clause-home : goal.place-address-requires-clause-home
+place-address-requires-clause-home c =
+    let P : Core → Type 0 = λ x. IsHome x.state.held.items x.home in
+    subst P (sym c.ask-search.ensures.same) (rw c.choose-choice.ensures.same c.requires.kept.home)
 
 pub returns : goal.returns
 returns c =
@@ -49,6 +55,7 @@ returns c =
     let site = c.args.site in
     let drawn = ap (λ (x : Core). x.state) c.ask-search.ensures.same ∙ c.choose-choice.ensures.same in
     let rules = c.place-address.ensures.rules ∙ ap rules_in drawn in
+    let Home : Core → Type 0 = λ x. IsHome x.state.held.items x.home in
     let Asked : ZoneTable → Type 0 = λ z. IsAsked own old.zones z first looks claim in
     let does = malloc-does old new c.args.who own first second class size site looks claim (record { address = c.place-address.result; next = state_in c.place-address.new.self }) c.block_or_null-reply.result
     c.requires.kept
@@ -62,6 +69,7 @@ returns c =
       rules = ap (λ (x : Core). rules_in x.state) c.enter.ensures.same ∙ rules;
       canary = ap (λ (x : Core). x.canary) c.enter.ensures.same ∙ ap (λ (x : Core). x.canary) c.ask-search.ensures.same;
       room = rw (ap (λ (x : Core). x.room) c.enter.ensures.same) c.ask-search.ensures.empty;
+      home = subst Home (sym c.enter.ensures.same) c.place-address.ensures.home;
     })
     c.requires.served c.served-class.ensures.class
     (c.block_or_null-reply.ensures ∙ ap (λ (r : Rules). reply_for r.options.xmalloc c.place-address.result) rules)

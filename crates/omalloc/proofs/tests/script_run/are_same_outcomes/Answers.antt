@@ -1,0 +1,6 @@
+use Rattle.std.proofs.lemmas.Slice.Eq.{slice_eq-Decides}
+use Rattle.omalloc.proofs.PlainRun.{outcomes-decide}
+use Rattle.omalloc.proofs.tests.script_run.are_same_outcomes.Goals as goal
+
+pub returns : goal.returns
+returns c = slice_eq-Decides outcomes-decide _ _ _ c.eq.ensures
