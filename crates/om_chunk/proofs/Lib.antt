@@ -1,0 +1,4 @@
+pub mod Counts
+pub mod PlaceLaws
+pub mod PageLaws
+pub mod Passes

@@ -1,0 +1,13 @@
+//! What each place of a pool's chunk pages has, and the choice of a free place. Only `ChunkPages::new`
+//! and `ChunkPages::reserve` take memory.
+#![tactic(auto)]
+
+mod page;
+mod pages;
+mod place;
+
+pub use pages::{ChunkPages, Picked};
+pub use place::PlaceState;
+
+#[cfg(test)]
+mod tests;
