@@ -1,10 +1,10 @@
 -- Places by their addresses, what is left of a page, and what a pick finds.
-use Rattle.std.proofs.Common.{◌≡◌, ℕ, ◌+◌, ◌-◌, ◌*◌, ◌<◌, ◌≤◌, Bool, true, false, if◌then◌else◌, nat_le, nat_eq, List, length, get_or, set, Option, Some, None, refl, sym, subst, ap, ◌∙◌, arith}
-use Rattle.std.specs.Prelude.{IfSome, IsSome, is_some, is_none, not}
-use Rattle.std.specs.List.{range_with_len, slice_get}
+use Rattle.std.proofs.Common.{◌≡◌, ℕ, ◌+◌, ◌-◌, ◌*◌, ◌<◌, Bool, true, false, if◌then◌else◌, nat_le, nat_eq, List, length, set, Option, Some, None, refl, subst, ap, ◌∙◌, arith}
+use Rattle.std.specs.Prelude.{IfSome, IsSome, is_some}
+use Rattle.std.specs.List.{range_with_len}
 use Rattle.std.specs.Option.{option_map, option_and_then}
 use Rattle.std.proofs.lemmas.Bool.{cases_lt, and_parts, eqb-true, le-leb}
-use Rattle.std.proofs.lemmas.List.{get_or_past, get_or-set_same, set-set, set-get_or, length-set}
+use Rattle.std.proofs.lemmas.List.{get_or_past, get_or-set_same, set-set}
 use Rattle.std.proofs.lemmas.List.Elements.{filter_passes}
 use Rattle.std.proofs.lemmas.Option.{get_or_from_slice_get, slice_get_within}
 use Rattle.om_geom.specs.Addresses.{address_of, page_at}
@@ -29,7 +29,7 @@ place_in-page pages address some = ⊎_elim
     (λ lt. lt)
     (λ past.
     let none : page_with pages address ≡ None =
-        ap (λ (o : Option ChunkPage). if nat_le first_address address then o else None) (get_or_past pages (page_at address) None past) ∙ neither (nat_le first_address address) in
+    ap (λ (o : Option ChunkPage). if nat_le first_address address then o else None) (get_or_past pages (page_at address) None past) ∙ neither (nat_le first_address address) in
     let no : is_some (place_in pages address) ≡ false = ap (λ (o : Option ChunkPage). is_some (option_and_then (λ page. place_at page (offset_of address)) o)) none in
     cc)
     (cases_lt (page_at address) (length pages))
@@ -47,8 +47,8 @@ is_free_on pages page place there is free =
     let on_page : byte < 4096 = free.on_page in
     let same = page_at-byte page byte on_page in
     let at_page : page_with pages (address_of page + byte) ≡ Some there =
-        ap (λ b. if b then page_in pages (page_at (address_of page + byte)) else None) (le-leb first_address (address_of page + byte) (omega arith))
-        ∙ ap (λ n. page_in pages n) same ∙ is in
+    ap (λ b. if b then page_in pages (page_at (address_of page + byte)) else None) (le-leb first_address (address_of page + byte) (omega arith))
+    ∙ ap (λ n. page_in pages n) same ∙ is in
     let offset : offset_of (address_of page + byte) ≡ byte = ap (λ n. address_of page + byte - address_of n) same ∙ omega arith in
     record {
       page_there = page_in-there pages page there is;

@@ -1,5 +1,5 @@
 -- A pass over a range that counts down to the number that passes.
-use Rattle.std.proofs.Common.{◌≡◌, ℕ, zero, suc, ◌+◌, ◌-◌, ◌<◌, Bool, true, false, ◌∷◌, Option, cond, refl, sym, ap, ◌∙◌, arith}
+use Rattle.std.proofs.Common.{◌≡◌, ℕ, zero, suc, ◌+◌, ◌-◌, ◌<◌, Bool, true, false, ◌∷◌, Option, cond, sym, ap, ◌∙◌, arith}
 use Rattle.std.specs.List.{filter, range_with_len, slice_get}
 
 module _ (test : ℕ → Bool) (n at : ℕ) (answer : Option ℕ) (there : at < n) where

@@ -1,14 +1,14 @@
 -- What the search for a free place of a page finds, and when it finds none.
-use Rattle.std.proofs.Common.{◌≡◌, ℕ, zero, suc, ◌*◌, ◌/◌, ◌%◌, ◌<◌, ◌≤◌, Bool, true, false, ◌||◌, ◌==◌, if◌then◌else◌, List, [], ◌∷◌, length, Option, Some, None, refl, sym, ap, ◌∙◌, arith}
+use Rattle.std.proofs.Common.{◌≡◌, ℕ, zero, suc, ◌*◌, ◌/◌, ◌%◌, ◌<◌, ◌≤◌, true, false, ◌||◌, ◌==◌, if◌then◌else◌, List, [], ◌∷◌, length, Option, Some, None, refl, sym, ap, ◌∙◌, arith}
 use Rattle.std.specs.Prelude.{IfSome, is_some}
-use Rattle.std.specs.List.{find, list_any, slice_get}
+use Rattle.std.specs.List.{list_any, slice_get}
 use Rattle.std.proofs.Math.Nat.{mul-div_cancel, mul-mod_left}
 use Rattle.std.proofs.lemmas.Bool.{or_right}
 use Rattle.om_geom.specs.Classes.{stride_of, places_of}
 use Rattle.om_geom.specs.ClassLaws.{stride-positive, places-at_least_2, place-within}
 use Rattle.om_geom.specs.Fit.{cyclic}
 use Rattle.om_geom.specs.FitLaws.{find-passes, find-cyclic_below, find-cyclic_none}
-use Rattle.om_chunk.specs.Places.{ChunkPage, is_free, has_free, is_there_and_free, is_free_place, picked_place, place_at, IsFormed, IsFreeIn}
+use Rattle.om_chunk.specs.Places.{ChunkPage, is_free, has_free, is_there_and_free, is_free_place, picked_place, IsFormed, IsFreeIn}
 use Rattle.om_chunk.specs.declared.place.Place.{Place}
 use Rattle.om_chunk.specs.declared.place.Place.TheVariants.{Live, Delayed, Free}
 
