@@ -1,4 +1,5 @@
 pub mod Counts
 pub mod PlaceLaws
 pub mod PageLaws
-pub mod Passes
+pub mod Flags
+pub mod OpenLaws

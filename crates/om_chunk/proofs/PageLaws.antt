@@ -34,7 +34,7 @@ place_in-page pages address some = ⊎_elim
     cc)
     (cases_lt (page_at address) (length pages))
 
-page_in-there : (pages : List (Option ChunkPage)) (page : ℕ) (there : ChunkPage) → page_in pages page ≡ Some there → page < length pages
+pub page_in-there : (pages : List (Option ChunkPage)) (page : ℕ) (there : ChunkPage) → page_in pages page ≡ Some there → page < length pages
 page_in-there pages page there is = ⊎_elim
     (λ lt. lt)
     (λ past. let none : page_in pages page ≡ None = get_or_past pages page None past in cc)

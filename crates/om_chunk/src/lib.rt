@@ -2,12 +2,10 @@
 //! and `ChunkPages::reserve` take memory.
 #![tactic(auto)]
 
+mod open;
 mod page;
 mod pages;
 mod place;
 
 pub use pages::{ChunkPages, Picked};
 pub use place::PlaceState;
-
-#[cfg(test)]
-mod tests;

@@ -1,13 +1,15 @@
-ghost use Rattle.std.specs.Prelude.{◌≡◌, ◌+◌, ◌*◌, ◌%◌, ◌<◌, ◌≤◌, ◌↔◌, true, IsTrue, IsSome, IfSome, IfOk, OnOk, Some, None, length, is_some, is_none, slice_get, slice_set};
+ghost use Rattle.std.specs.Prelude.{◌≡◌, ◌+◌, ◌*◌, ◌%◌, ◌<◌, ◌≤◌, ◌↔◌, true, IsTrue, IsSome, IfSome, IfOk, OnOk, IsOk, MatchOption, Some, None, length, is_some, is_none, slice_get, slice_set};
 ghost use Rattle.std.specs.Option.{option_map};
 ghost use Rattle.om_geom.specs.Addresses.{page_at};
 ghost use Rattle.om_geom.specs.Classes.{is_class, places_of};
 ghost use Rattle.om_geom.specs.Numbers.{most_zones, zone_pages, first_address};
 ghost use Rattle.om_chunk.specs.Pages.{no_pages, page_in, page_with, offset_of, place_in, with_page, with_place, page_kept, page_left, with_freed};
+ghost use Rattle.om_chunk.specs.OpenSets.{IsUnusedOf};
 ghost use Rattle.om_chunk.specs.Picks.{open_pages, has_free_place, is_open, place_on, picked_page, picked, IsFreeOn};
 ghost use Rattle.om_chunk.specs.Places.{state_of};
 ghost use Rattle.om_chunk.specs.declared.place.Place.TheVariants.{Live, Delayed, Free};
 
+use crate::open::OpenPages;
 use crate::page::{MOST_PLACES, PagePlaces};
 use crate::place::{Place, PlaceState, state_of};
 use om_geom::{Addr, Class, FIRST_ADDRESS, PAGE_SIZE, Page, ZONE_PAGES};
@@ -27,12 +29,15 @@ pub struct ChunkPages {
     alloc: Global,
     // One for each page of the arena, by the page's number.
     pages: Vec<Option<PagePlaces>>,
+    // The chunk pages that have a free place.
+    listed: OpenPages,
     // For the places of one page more.
     room: Option<Vec<Place>>,
 }
 
 impl Model for ChunkPages {
     ghost use Rattle.std.specs.Prelude.{◌≡◌, ◌≤◌, List, [], length, if◌then◌else◌, is_some, IfSome, vec_capacity};
+    ghost use Rattle.om_chunk.specs.OpenSets.{AreOpen};
     ghost use Rattle.om_chunk.specs.Pages.{PageList};
 
     ghost Value = { PageList };
@@ -40,7 +45,8 @@ impl Model for ChunkPages {
     ghost view = { λ c. record { pages = c.pages.items; spare = if is_some c.room then 1 else 0 } };
 
     ghost invariant = { λ c. (length c.pages.items ≤ 2048)
-        × IfSome c.room (λ room. (room.items ≡ []) × (256 ≤ vec_capacity room)) };
+        × IfSome c.room (λ room. (room.items ≡ []) × (256 ≤ vec_capacity room))
+        × AreOpen c.pages.items c.listed };
 }
 
 impl ChunkPages {
@@ -50,6 +56,7 @@ impl ChunkPages {
         ensures { IfOk result (λ chunks. chunks.pages ≡ no_pages zones) }
     {
         let count = (ZONE_PAGES * zones) as usize;
+        let listed = OpenPages::new(alloc, count)?;
         let mut pages = Vec::with_capacity(alloc, count)?;
         for _ in 0..count {
             pages.push(None)?;
@@ -57,15 +64,17 @@ impl ChunkPages {
         Ok(ChunkPages {
             alloc,
             pages,
+            listed,
             room: None,
         })
     }
 
-    /// Makes room for one page more. After want of memory the pages are as before.
+    /// Makes room for one page more, where there is none. After want of memory the pages are as before.
     pub fn reserve(&mut self) -> Result<(), AllocError>
         ensures pages { self.new.pages ≡ self.old.pages }
         ensures room { OnOk result (1 ≤ self.new.spare) }
         ensures spare { self.old.spare ≤ self.new.spare }
+        ensures made { 1 ≤ self.old.spare → IsOk result }
     {
         if self.room.is_none() {
             self.room = Some(Vec::with_capacity(self.alloc, MOST_PLACES)?);
@@ -85,6 +94,7 @@ impl ChunkPages {
     {
         if let Some(room) = self.room.take() {
             self.pages[page.0 as usize] = Some(PagePlaces::new(room, class));
+            self.listed.set(class, page.0, true);
         }
     }
 
@@ -185,29 +195,33 @@ impl ChunkPages {
         }
     }
 
-    // Whether some place of the page is live or delayed.
-    fn is_used(&self, page: usize) -> bool
-        ensures { result ≡ is_some (page_kept self.now.pages page) }
+    // The class of a page, where no place of it is live or delayed.
+    fn unused_class(&self, page: usize) -> Option<Class>
+        ensures { MatchOption result (page_kept self.now.pages page ≡ page_in self.now.pages page)
+            (λ class. IsUnusedOf class.0 (page_in self.now.pages page)) }
     {
         match self.page(page) {
-            Some(there) => !there.is_unused(),
-            None => false,
+            Some(there) if there.is_unused() => Some(there.class()),
+            _ => None,
         }
     }
 
     // A page goes on which no place is live or delayed. Whether it went.
     fn drop_unused(&mut self, page: usize) -> bool
-        requires { page < length self.old.pages }
+        requires { IsSome (page_in self.old.pages page) }
         ensures gone { result ≡ is_none (page_kept self.old.pages page) }
         ensures pages { self.new.pages
             ≡ slice_set self.old.pages page (page_kept self.old.pages page) }
         ensures spare { self.old.spare ≡ self.new.spare }
     {
-        if self.is_used(page) {
-            return false;
+        match self.unused_class(page) {
+            Some(class) => {
+                self.pages[page] = None;
+                self.listed.set(class, page as u32, false);
+                true
+            }
+            None => false,
         }
-        self.pages[page] = None;
-        true
     }
 
     // Makes the place that begins at the address be so.
@@ -216,59 +230,20 @@ impl ChunkPages {
         ensures pages { self.new.pages ≡ with_place self.old.pages addr.0 place }
         ensures spare { self.old.spare ≡ self.new.spare }
     {
-        if let Some(page) = &mut self.pages[page_at(addr)] {
+        let at = page_at(addr);
+        if let Some(page) = &mut self.pages[at] {
             page.set(offset_of(addr), place);
+            let class = page.class();
+            let free = page.has_free();
+            self.listed.set(class, at as u32, free);
         }
-    }
-
-    fn is_open(&self, page: u32, class: Class) -> bool
-        ensures { result ≡ is_open class.0 (page_in self.now.pages page) }
-    {
-        match self.page(page as usize) {
-            Some(there) => there.class() == class && there.has_free(),
-            None => false,
-        }
-    }
-
-    fn page_count(&self) -> u32
-        ensures { result ≡ length self.now.pages }
-    {
-        self.pages.len() as u32
-    }
-
-    fn open_count(&self, class: Class) -> usize
-        ensures { result ≡ length (open_pages self.now.pages class.0) }
-    {
-        (0..self.page_count())
-            .filter(|page| self.is_open(*page, class))
-            .count()
-    }
-
-    // Open page i of the class, from 0.
-    fn open_page(&self, class: Class, i: usize) -> Option<u32>
-        ensures { result ≡ slice_get (open_pages self.now.pages class.0) i }
-    {
-        let mut before = i;
-        for page in 0..self.page_count() {
-            if self.is_open(page, class) {
-                if before == 0 {
-                    return Some(page);
-                }
-                before -= 1;
-            }
-        }
-        None
     }
 
     fn picked_page(&self, class: Class, word: u32) -> Option<u32>
+        requires { IsTrue (is_class class.0) }
         ensures { result ≡ picked_page self.now.pages class.0 word }
     {
-        let count = self.open_count(class);
-        if count == 0 {
-            None
-        } else {
-            self.open_page(class, word as usize % count)
-        }
+        self.listed.pick(class, word)
     }
 
     fn place_on(&self, page: u32, word: u32) -> Option<u32>
@@ -299,3 +274,6 @@ fn offset_of(addr: Addr) -> u32
 {
     ((addr.0 - FIRST_ADDRESS) % u64::from(PAGE_SIZE)) as u32
 }
+
+#[cfg(test)]
+mod tests;

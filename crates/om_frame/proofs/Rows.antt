@@ -5,6 +5,7 @@ use Rattle.std.specs.List.{range_with_len}
 use Rattle.std.specs.Array.{AllOfLen}
 use Rattle.std.proofs.lemmas.List.{set_at, same_lists, get_or-replicate, replicate_more, map-append, length-map, length_push}
 use Rattle.std.proofs.lemmas.List.Elements.{filter_map-append}
+use Rattle.om_geom.specs.Numbers.{zone_pages}
 use Rattle.om_frame.specs.Frames.{PageBytes, AreNeighbours, next_page}
 use Rattle.om_frame.specs.MemoryLaws.{range-append}
 use Rattle.om_frame.specs.Packed.{packed, row, IsPacked}
@@ -24,21 +25,21 @@ packed-row frames empty =
     ∙ ap (λ (xs : List PageBytes). frames ++ xs) (packed-none empty)
     ∙ append-nil frames
 
-pub is_packed-row : (places : List (Option PageBytes)) (frames : List PageBytes) (len : ℕ) → places ≡ row frames (32 - len) → length frames ≡ len → len ≤ 32 → AreNeighbours frames → IsPacked places len × (packed places ≡ frames)
+pub is_packed-row : (places : List (Option PageBytes)) (frames : List PageBytes) (len : ℕ) → places ≡ row frames (zone_pages - len) → length frames ≡ len → len ≤ zone_pages → AreNeighbours frames → IsPacked places len × (packed places ≡ frames)
 is_packed-row places frames len is many few neighbours =
-    let same : packed places ≡ frames = ap packed is ∙ packed-row frames (32 - len) in (
+    let same : packed places ≡ frames = ap packed is ∙ packed-row frames (zone_pages - len) in (
       record {
         many = ap length same ∙ many;
         few = few;
-        front = is ∙ ap (λ (xs : List PageBytes). row xs (32 - len)) (sym same);
+        front = is ∙ ap (λ (xs : List PageBytes). row xs (zone_pages - len)) (sym same);
         neighbours = subst AreNeighbours (sym same) neighbours;
       },
       same,
     )
 
-pub row-empty : (places : List (Option PageBytes)) → AllOfLen (λ (place : Option PageBytes). place ≡ None) places 32 → places ≡ row [] 32
-row-empty places all = same_lists places (replicate 32 None) all.long
-    (λ k d lt. all.at k d (omega (arith, all.long)) ∙ sym (get_or-replicate 32 k None d (omega (arith, all.long))))
+pub row-empty : (places : List (Option PageBytes)) → AllOfLen (λ (place : Option PageBytes). place ≡ None) places zone_pages → places ≡ row [] zone_pages
+row-empty places all = same_lists places (replicate zone_pages None) all.long
+    (λ k d lt. all.at k d (omega (arith, all.long)) ∙ sym (get_or-replicate zone_pages k None d (omega (arith, all.long))))
 
 pub neighbours_push : (frames : List PageBytes) (frame : PageBytes) → AreNeighbours frames → frame.page ≡ next_page frames frame.page → AreNeighbours (frames ++ frame ∷ [])
 neighbours_push [] frame are next = refl
@@ -57,17 +58,17 @@ neighbours_rest first (second ∷ frames) are =
     rest ∙ ap (λ (page : ℕ). range_with_len (page + 1) (length frames)) (sym page)
 
 -- a frame joins at the end
-pub row_push : (places : List (Option PageBytes)) (len : ℕ) (frames : List PageBytes) (frame : PageBytes) → IsPacked places len → packed places ≡ frames → length frames < 32 → frame.page ≡ next_page frames frame.page
+pub row_push : (places : List (Option PageBytes)) (len : ℕ) (frames : List PageBytes) (frame : PageBytes) → IsPacked places len → packed places ≡ frames → length frames < zone_pages → frame.page ≡ next_page frames frame.page
     → IsPacked (set places len (Some frame)) (len + 1) × (packed (set places len (Some frame)) ≡ frames ++ frame ∷ [])
 row_push places len frames frame is shown room next =
     let many : length frames ≡ len = ap length (sym shown) ∙ is.many in
-    let left : 32 - len ≡ suc (32 - (len + 1)) = omega arith in
-    let front : places ≡ map Some frames ++ None ∷ replicate (32 - (len + 1)) None = is.front ∙ ap (λ (xs : List PageBytes). row xs (32 - len)) shown ∙ ap (row frames) left in
-    let pushed : set places len (Some frame) ≡ row (frames ++ frame ∷ []) (32 - (len + 1)) =
+    let left : zone_pages - len ≡ suc (zone_pages - (len + 1)) = omega arith in
+    let front : places ≡ map Some frames ++ None ∷ replicate (zone_pages - (len + 1)) None = is.front ∙ ap (λ (xs : List PageBytes). row xs (zone_pages - len)) shown ∙ ap (row frames) left in
+    let pushed : set places len (Some frame) ≡ row (frames ++ frame ∷ []) (zone_pages - (len + 1)) =
     ap (λ (xs : List (Option PageBytes)). set xs len (Some frame)) front
-    ∙ set_at (map Some frames) None (replicate (32 - (len + 1)) None) (Some frame) len (length-map frames Some ∙ many)
-    ∙ sym (append_assoc (map Some frames) (Some frame ∷ []) (replicate (32 - (len + 1)) None))
-    ∙ ap (λ (xs : List (Option PageBytes)). xs ++ replicate (32 - (len + 1)) None) (sym (map-append Some frames (frame ∷ []))) in
+    ∙ set_at (map Some frames) None (replicate (zone_pages - (len + 1)) None) (Some frame) len (length-map frames Some ∙ many)
+    ∙ sym (append_assoc (map Some frames) (Some frame ∷ []) (replicate (zone_pages - (len + 1)) None))
+    ∙ ap (λ (xs : List (Option PageBytes)). xs ++ replicate (zone_pages - (len + 1)) None) (sym (map-append Some frames (frame ∷ []))) in
     is_packed-row (set places len (Some frame)) (frames ++ frame ∷ []) (len + 1) pushed (omega (arith, length_push frames frame, many)) (omega arith)
     (neighbours_push frames frame (subst AreNeighbours shown is.neighbours) next)
 
@@ -81,25 +82,25 @@ pub row_first : (places : List (Option PageBytes)) (len : ℕ) (frames : List Pa
 row_first places len frames d is shown =
     let few = is.few in
     let many : length frames ≡ len = ap length (sym shown) ∙ is.many in
-    ap (λ (xs : List (Option PageBytes)). get_or xs 0 d) (is.front ∙ ap (λ (xs : List PageBytes). row xs (32 - len)) shown) ∙ first-row frames (32 - len) d (omega arith)
+    ap (λ (xs : List (Option PageBytes)). get_or xs 0 d) (is.front ∙ ap (λ (xs : List PageBytes). row xs (zone_pages - len)) shown) ∙ first-row frames (zone_pages - len) d (omega arith)
 
 -- the frame in the first place leaves, and the others move up
 pub row_rest : (places : List (Option PageBytes)) (len : ℕ) (frames : List PageBytes) (d : Option PageBytes) → IsPacked places len → packed places ≡ frames → is_some (get_or places 0 d) ≡ true
     → IsPacked (drop 1 (set places 0 None) ++ take 1 (set places 0 None)) (len - 1) × (packed (drop 1 (set places 0 None) ++ take 1 (set places 0 None)) ≡ drop 1 frames)
 row_rest places len [] d is shown some =
     let many : 0 ≡ len = ap length (sym shown) ∙ is.many in
-    let front : places ≡ row [] (32 - 0) = is.front ∙ ap (λ (xs : List PageBytes). row xs (32 - len)) shown ∙ ap (λ (n : ℕ). row [] (32 - n)) (sym many) in
+    let front : places ≡ row [] (zone_pages - 0) = is.front ∙ ap (λ (xs : List PageBytes). row xs (zone_pages - len)) shown ∙ ap (λ (n : ℕ). row [] (zone_pages - n)) (sym many) in
     let none : is_some (get_or places 0 d) ≡ false = ap (λ (xs : List (Option PageBytes)). is_some (get_or xs 0 d)) front in
     cc
 row_rest places len (frame ∷ frames) d is shown some =
     let many : suc (length frames) ≡ len = ap length (sym shown) ∙ is.many in
     let few = is.few in
-    let rest : List (Option PageBytes) = map Some frames ++ replicate (32 - len) None in
-    let front : places ≡ Some frame ∷ rest = is.front ∙ ap (λ (xs : List PageBytes). row xs (32 - len)) shown in
-    let more : 32 - len + 1 ≡ 32 - (len - 1) = omega arith in
-    let turned : drop 1 (set places 0 None) ++ take 1 (set places 0 None) ≡ row frames (32 - (len - 1)) =
+    let rest : List (Option PageBytes) = map Some frames ++ replicate (zone_pages - len) None in
+    let front : places ≡ Some frame ∷ rest = is.front ∙ ap (λ (xs : List PageBytes). row xs (zone_pages - len)) shown in
+    let more : zone_pages - len + 1 ≡ zone_pages - (len - 1) = omega arith in
+    let turned : drop 1 (set places 0 None) ++ take 1 (set places 0 None) ≡ row frames (zone_pages - (len - 1)) =
     ap (λ (xs : List (Option PageBytes)). drop 1 (set xs 0 None) ++ take 1 (set xs 0 None)) front
-    ∙ append_assoc (map Some frames) (replicate (32 - len) None) (None ∷ [])
-    ∙ ap (λ (xs : List (Option PageBytes)). map Some frames ++ xs) (replicate_more (32 - len) None ∙ ap (λ (n : ℕ). replicate n None) more) in
+    ∙ append_assoc (map Some frames) (replicate (zone_pages - len) None) (None ∷ [])
+    ∙ ap (λ (xs : List (Option PageBytes)). map Some frames ++ xs) (replicate_more (zone_pages - len) None ∙ ap (λ (n : ℕ). replicate n None) more) in
     is_packed-row (drop 1 (set places 0 None) ++ take 1 (set places 0 None)) frames (len - 1) turned (omega arith) (omega arith)
     (neighbours_rest frame frames (subst AreNeighbours shown is.neighbours))

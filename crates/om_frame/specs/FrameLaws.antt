@@ -6,6 +6,7 @@ use Rattle.std.proofs.lemmas.List.{get_or-set_same, get_or-set_other, get_or-rep
 use Rattle.std.proofs.lemmas.Bool.{cases_eq, cases_lt, and_from, and_parts, le-leb, lt-ltb}
 use Rattle.std.proofs.lemmas.List.FromFn.{length-map-range_with_len, get_or-map-range_with_len, map-range_with_len_more}
 use Rattle.om_geom.specs.Addresses.{address_of, page_at}
+use Rattle.om_geom.specs.Numbers.{page_size, zone_pages, first_address}
 use Rattle.om_frame.specs.Memory.{no_pages, page_bytes, is_held, IsHeldPart}
 use Rattle.om_frame.specs.Frames.{PageBytes, zeros, zero_frame, zero_frames, empty_frame, next_page, with_frames, without_pages}
 use mathlib.Core.Logic.{⊎_elim}
@@ -73,24 +74,24 @@ All-zero_frames P first n each k d lt =
 pub is_held-no_pages : (zones page : ℕ) → is_held (no_pages zones) page ≡ false
 is_held-no_pages zones page =
     let none : page_bytes (no_pages zones) page ≡ [] = ⊎_elim
-    (λ (there : page < 32 * zones). get_or-replicate (32 * zones) page [] [] there)
-    (λ (past : 32 * zones ≤ page). get_or_past (no_pages zones) page [] (omega (arith, length-replicate {A = List ℕ} (32 * zones) [])))
-    (cases_lt page (32 * zones)) in
+    (λ (there : page < zone_pages * zones). get_or-replicate (zone_pages * zones) page [] [] there)
+    (λ (past : zone_pages * zones ≤ page). get_or_past (no_pages zones) page [] (omega (arith, length-replicate {A = List ℕ} (zone_pages * zones) [])))
+    (cases_lt page (zone_pages * zones)) in
     ap (λ (bytes : List ℕ). nat_lt 0 (length bytes)) none
 
 -- so they are held
-pub held-with_zeros : (memory : List (List ℕ)) (first n : ℕ) → first + n ≤ length memory → IsHeldPart (with_frames memory (zero_frames first n)) (address_of first) (4096 * n)
+pub held-with_zeros : (memory : List (List ℕ)) (first n : ℕ) → first + n ≤ length memory → IsHeldPart (with_frames memory (zero_frames first n)) (address_of first) (page_size * n)
 unfolding zeros
 held-with_zeros memory first n fits address low high =
     let whole : List (List ℕ) = with_frames memory (zero_frames first n) in
     let bytes = page_bytes-with_zeros memory first n (page_at address) (omega arith) (omega arith) fits in
-    let long : length (page_bytes whole (page_at address)) ≡ 4096 = ap length bytes ∙ length-replicate {A = ℕ} 4096 0 in
-    and_from (nat_le 65536 address) (is_held whole (page_at address)) (le-leb 65536 address (omega arith)) (lt-ltb 0 (length (page_bytes whole (page_at address))) (omega arith))
+    let long : length (page_bytes whole (page_at address)) ≡ page_size = ap length bytes ∙ length-replicate {A = ℕ} page_size 0 in
+    and_from (nat_le first_address address) (is_held whole (page_at address)) (le-leb first_address address (omega arith)) (lt-ltb 0 (length (page_bytes whole (page_at address))) (omega arith))
 
 -- a page of such a part is held
 pub held-page : (memory : List (List ℕ)) (at len page : ℕ) → IsHeldPart memory at len → at ≤ address_of page → address_of page < at + len → is_held memory page ≡ true
 held-page memory at len page held low high =
-    let both = and_parts (nat_le 65536 (address_of page)) (is_held memory (page_at (address_of page))) (held (address_of page) low high) in
+    let both = and_parts (nat_le first_address (address_of page)) (is_held memory (page_at (address_of page))) (held (address_of page) low high) in
     let here : page_at (address_of page) ≡ page = omega arith in
     subst (λ (p : ℕ). is_held memory p ≡ true) here both.1
 

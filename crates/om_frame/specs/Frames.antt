@@ -1,6 +1,7 @@
 -- Frames: pages with their bytes, and how memory gets and loses them.
 use Rattle.std.specs.Prelude.{◌≡◌, ℕ, ◌+◌, ◌<◌, ◌≤◌, true, List, [], ◌∷◌, length, map, replicate, slice_set}
 use Rattle.std.specs.List.{range_with_len}
+use Rattle.om_geom.specs.Numbers.{page_size}
 use Rattle.om_frame.specs.Memory.{is_held}
 
 pub record PageBytes : Type 0 where
@@ -8,7 +9,7 @@ pub record PageBytes : Type 0 where
   pub bytes : List ℕ
 
 unfoldable pub zeros : List ℕ
-zeros = replicate 4096 0
+zeros = replicate page_size 0
 
 abbrev pub zero_frame : ℕ → PageBytes
 zero_frame page = record { page = page; bytes = zeros }

@@ -3,10 +3,11 @@
 use Rattle.std.specs.Prelude.{◌≡◌, ℕ, ◌+◌, ◌-◌, ◌*◌, ◌%◌, ◌<◌, ◌≤◌, Bool, true, ◌&&◌, not, nat_le, nat_lt, ◌==◌, List, [], ◌∷◌, length, map, filter, replicate, slice_index, slice_index_or, slice_set, take, Option, if◌then◌else◌}
 use Rattle.std.specs.List.{position_from, range_with_len}
 use Rattle.om_geom.specs.Addresses.{page_at}
+use Rattle.om_geom.specs.Numbers.{page_size, zone_pages, first_address}
 
 -- of an arena of so many zones, while no page is held
 abbrev pub no_pages : ℕ → List (List ℕ)
-no_pages zones = replicate (32 * zones) []
+no_pages zones = replicate (zone_pages * zones) []
 
 -- the bytes of a page
 abbrev pub page_bytes : List (List ℕ) → ℕ → List ℕ
@@ -21,11 +22,11 @@ held_pages memory = filter (is_held memory) (range_with_len 0 (length memory))
 
 -- whether the page of an address is held; an address below the arena has no page
 abbrev pub is_held_at : List (List ℕ) → ℕ → Bool
-is_held_at memory address = nat_le 65536 address && is_held memory (page_at address)
+is_held_at memory address = nat_le first_address address && is_held memory (page_at address)
 
 -- the number of an address's byte on its page, from 0
 abbrev pub offset_at : ℕ → ℕ
-offset_at address = (address - 65536) % 4096
+offset_at address = (address - first_address) % page_size
 
 -- what a page that is held has there
 abbrev pub byte_at : List (List ℕ) → ℕ → ℕ
@@ -53,7 +54,7 @@ filled memory address len byte = with_bytes memory address (replicate len byte)
 -- For lists of any other length, which no slice has, it is what is left of them: none past the page's end, and none
 -- where none was lent.
 abbrev pub with_part : List (List ℕ) → ℕ → ℕ → List ℕ → List (List ℕ)
-with_part memory address len bytes = if len == 0 then memory else with_bytes memory address (take (4096 - offset_at address) bytes)
+with_part memory address len bytes = if len == 0 then memory else with_bytes memory address (take (page_size - offset_at address) bytes)
 
 -- how far from the address, among so many bytes, the first stands that isn't the one given
 abbrev pub first_other : List (List ℕ) → ℕ → ℕ → ℕ → Option ℕ
@@ -61,7 +62,7 @@ first_other memory address len byte = position_from (λ other. not (other == byt
 
 -- the bytes of a page, be it held or not
 abbrev pub IsPage : List ℕ → Type 0
-IsPage bytes = 0 < length bytes → length bytes ≡ 4096
+IsPage bytes = 0 < length bytes → length bytes ≡ page_size
 
 -- every page that so many bytes from an address on touch is held
 abbrev pub IsHeldPart : List (List ℕ) → ℕ → ℕ → Type 0

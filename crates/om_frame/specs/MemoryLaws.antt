@@ -1,5 +1,5 @@
 -- Memory by pages: what is read and written on one page, in parts one after another, and what a write keeps.
-use Rattle.std.proofs.Common.{◌≡◌, ℕ, zero, suc, ◌+◌, ◌-◌, ◌<◌, ◌≤◌, List, [], ◌∷◌, ◌++◌, length, map, take, drop, get_or, set, replicate, Bool, true, false, Some, None, not, ◌&&◌, nat_lt, refl, sym, ap, ◌∙◌, arith, nat_le}
+use Rattle.std.proofs.Common.{◌≡◌, ℕ, zero, suc, ◌+◌, ◌-◌, ◌*◌, ◌<◌, ◌≤◌, List, [], ◌∷◌, ◌++◌, length, map, take, drop, get_or, set, replicate, Bool, true, false, Some, None, not, ◌&&◌, nat_lt, refl, sym, ap, ◌∙◌, arith, nat_le}
 use Rattle.std.specs.Prelude.{◌==◌, option_map, filter}
 use Rattle.std.specs.List.{range_with_len, position_from}
 use Rattle.std.proofs.lemmas.Bool.{and_parts, ltb-true, leb-true, cases_eq, cases_lt, cases_Bool}
@@ -7,18 +7,19 @@ use Rattle.std.proofs.lemmas.List.{map-append, length-set, get_or-set_same, get_
 use Rattle.std.proofs.lemmas.List.Elements.{filter_agree}
 use Rattle.std.proofs.lemmas.List.FromFn.{length-map-range_with_len}
 use Rattle.om_geom.specs.Addresses.{address_of, page_at}
+use Rattle.om_geom.specs.Numbers.{page_size, zone_pages, most_zones, first_address}
 use Rattle.om_frame.specs.Memory.{page_bytes, is_held, held_pages, is_held_at, offset_at, byte_at, bytes_at, with_byte, with_bytes, filled, first_other, IsHeldPart}
 use mathlib.Core.Logic.{⊎_elim}
 
 -- ---- a byte's page and its place there
 
-pub page_at-on : (address page offset : ℕ) → address ≡ address_of page + offset → offset < 4096 → page_at address ≡ page
+pub page_at-on : (address page offset : ℕ) → address ≡ address_of page + offset → offset < page_size → page_at address ≡ page
 page_at-on address page offset on within = omega arith
 
-pub offset_at-on : (address page offset : ℕ) → address ≡ address_of page + offset → offset < 4096 → offset_at address ≡ offset
+pub offset_at-on : (address page offset : ℕ) → address ≡ address_of page + offset → offset < page_size → offset_at address ≡ offset
 offset_at-on address page offset on within = omega arith
 
-pub address-from : (address : ℕ) → 65536 ≤ address → address ≡ address_of (page_at address) + offset_at address
+pub address-from : (address : ℕ) → first_address ≤ address → address ≡ address_of (page_at address) + offset_at address
 address-from address low = omega arith
 
 -- ---- reads
@@ -35,7 +36,7 @@ pub bytes_at-append : (memory : List (List ℕ)) (at j k : ℕ) → bytes_at mem
 bytes_at-append memory at j k = ap (map (byte_at memory)) (range-append at j k) ∙ map-append (byte_at memory) (range_with_len at j) (range_with_len (at + j) k)
 
 -- the bytes read on one page stand there one after another
-pub bytes_at-on_page : (memory : List (List ℕ)) (at page offset len : ℕ) → at ≡ address_of page + offset → offset + len ≤ 4096
+pub bytes_at-on_page : (memory : List (List ℕ)) (at page offset len : ℕ) → at ≡ address_of page + offset → offset + len ≤ page_size
     → offset + len ≤ length (page_bytes memory page) → bytes_at memory at len ≡ take len (drop offset (page_bytes memory page))
 bytes_at-on_page memory at page offset zero on within there = refl
 bytes_at-on_page memory at page offset (suc len) on within there =
@@ -70,7 +71,7 @@ spliced_more offset x bytes new within =
     ∙ ap (λ (xs : List ℕ). take offset bytes ++ (x ∷ (new ++ xs))) back
 
 -- bytes written on one page replace those that stand there
-pub with_bytes-on_page : (memory : List (List ℕ)) (at page offset : ℕ) (new : List ℕ) → at ≡ address_of page + offset → offset + length new ≤ 4096
+pub with_bytes-on_page : (memory : List (List ℕ)) (at page offset : ℕ) (new : List ℕ) → at ≡ address_of page + offset → offset + length new ≤ page_size
     → offset + length new ≤ length (page_bytes memory page) → page < length memory → with_bytes memory at new ≡ set memory page (spliced offset (page_bytes memory page) new)
 with_bytes-on_page memory at page offset [] on within there held =
     sym (ap (set memory page) (take-append-drop offset (page_bytes memory page)) ∙ set-get_or memory page [])
@@ -112,7 +113,7 @@ pub is_held-with_bytes : (memory : List (List ℕ)) (at : ℕ) (new : List ℕ) 
 is_held-with_bytes memory at new page = ap (nat_lt 0) (length-page-with_bytes memory at new page)
 
 pub is_held_at-with_bytes : (memory : List (List ℕ)) (at : ℕ) (new : List ℕ) (address : ℕ) → is_held_at (with_bytes memory at new) address ≡ is_held_at memory address
-is_held_at-with_bytes memory at new address = ap (λ (held : Bool). nat_le 65536 address && held) (is_held-with_bytes memory at new (page_at address))
+is_held_at-with_bytes memory at new address = ap (λ (held : Bool). nat_le first_address address && held) (is_held-with_bytes memory at new (page_at address))
 
 pub is_held_at-filled : (memory : List (List ℕ)) (at len byte address : ℕ) → is_held_at (filled memory at len byte) address ≡ is_held_at memory address
 is_held_at-filled memory at len byte address = is_held_at-with_bytes memory at (replicate len byte) address
@@ -127,8 +128,8 @@ held_pages-with_bytes memory at new =
 pub IsHeldPart-within : (memory : List (List ℕ)) (at len done piece : ℕ) → IsHeldPart memory at len → done + piece ≤ len → IsHeldPart memory (at + done) piece
 IsHeldPart-within memory at len done piece held within address low high = held address (omega arith) (omega arith)
 
-pub held_at-low : (memory : List (List ℕ)) (address : ℕ) → is_held_at memory address ≡ true → 65536 ≤ address
-held_at-low memory address held = leb-true 65536 address (and_parts (nat_le 65536 address) (is_held memory (page_at address)) held).0
+pub held_at-low : (memory : List (List ℕ)) (address : ℕ) → is_held_at memory address ≡ true → first_address ≤ address
+held_at-low memory address held = leb-true first_address address (and_parts (nat_le first_address address) (is_held memory (page_at address)) held).0
 
 pub is_held-there : (memory : List (List ℕ)) (page : ℕ) → is_held memory page ≡ true → page < length memory
 is_held-there memory page held = ⊎_elim
@@ -137,9 +138,9 @@ is_held-there memory page held = ⊎_elim
     let some = ltb-true 0 (length (page_bytes memory page)) held in absurd (omega (arith, ap length none)))
     (cases_lt page (length memory))
 
-pub held_at-high : (memory : List (List ℕ)) (address : ℕ) → length memory ≤ 2048 → is_held_at memory address ≡ true → address < address_of 2048
+pub held_at-high : (memory : List (List ℕ)) (address : ℕ) → length memory ≤ zone_pages * most_zones → is_held_at memory address ≡ true → address < address_of (zone_pages * most_zones)
 held_at-high memory address few held =
-    let both = and_parts (nat_le 65536 address) (is_held memory (page_at address)) held in
+    let both = and_parts (nat_le first_address address) (is_held memory (page_at address)) held in
     let there = is_held-there memory (page_at address) both.1 in
     omega arith
 

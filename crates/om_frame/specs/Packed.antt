@@ -1,5 +1,6 @@
 -- Frames at the front of a row of 32 places.
 use Rattle.std.specs.Prelude.{◌≡◌, ℕ, ◌-◌, ◌≤◌, List, ◌++◌, length, map, replicate, Option, Some, None, filter_map}
+use Rattle.om_geom.specs.Numbers.{zone_pages}
 use Rattle.om_frame.specs.Frames.{PageBytes, AreNeighbours}
 
 -- the frames, in the order of their places
@@ -12,6 +13,6 @@ row frames empty = map Some frames ++ replicate empty None
 
 pub record IsPacked (places : List (Option PageBytes)) (len : ℕ) : Type 0 where
   pub many : length (packed places) ≡ len
-  pub few : len ≤ 32
-  pub front : places ≡ row (packed places) (32 - len)
+  pub few : len ≤ zone_pages
+  pub front : places ≡ row (packed places) (zone_pages - len)
   pub neighbours : AreNeighbours (packed places)

@@ -5,20 +5,21 @@ use Rattle.std.proofs.lemmas.Bool.{and_parts, ltb-true, ne_eqb, lt-ltb, cases_eq
 use Rattle.std.proofs.lemmas.List.{length-set, get_or-set_same, get_or-set_other, set_past, take_all, nil_from_length}
 use Rattle.std.proofs.lemmas.List.Elements.{All-set}
 use Rattle.om_geom.specs.Addresses.{page_at}
+use Rattle.om_geom.specs.Numbers.{page_size, first_address}
 use Rattle.om_frame.specs.Memory.{page_bytes, is_held, is_held_at, offset_at, byte_at, bytes_at, with_byte, with_bytes, IsPage, IsHeldPart, with_part}
 use Rattle.om_frame.specs.MemoryLaws.{is_held-there, is_held_at-with_bytes, held_at-low}
 use mathlib.Core.Logic.{⊎_elim, inl, inr}
 
 -- a lent part holds as many bytes as were lent, and they are all written
-pub with_part-whole : (memory : List (List ℕ)) (at len : ℕ) (new : List ℕ) → length new ≡ len → offset_at at + len ≤ 4096 → with_part memory at len new ≡ with_bytes memory at new
+pub with_part-whole : (memory : List (List ℕ)) (at len : ℕ) (new : List ℕ) → length new ≡ len → offset_at at + len ≤ page_size → with_part memory at len new ≡ with_bytes memory at new
 with_part-whole memory at zero new many within = ap (with_bytes memory at) (sym (nil_from_length new many))
 with_part-whole memory at (suc len) new many within =
     let some : nat_eq (suc len) 0 ≡ false = ne_eqb (suc len) 0 (λ none. omega arith) in
-    rw some (ap (with_bytes memory at) (take_all (4096 - offset_at at) new (omega arith)))
+    rw some (ap (with_bytes memory at) (take_all (page_size - offset_at at) new (omega arith)))
 
 -- ---- one byte
 
-byte_at-with_byte_other : (memory : List (List ℕ)) (at x address : ℕ) → 65536 ≤ at → 65536 ≤ address → (address ≡ at → ⊥) → byte_at (with_byte memory at x) address ≡ byte_at memory address
+byte_at-with_byte_other : (memory : List (List ℕ)) (at x address : ℕ) → first_address ≤ at → first_address ≤ address → (address ≡ at → ⊥) → byte_at (with_byte memory at x) address ≡ byte_at memory address
 byte_at-with_byte_other memory at x address low_at low other =
     let bytes : List ℕ = page_bytes memory (page_at at) in
     let new : List ℕ = set bytes (offset_at at) x in
@@ -35,7 +36,7 @@ byte_at-with_byte_other memory at x address low_at low other =
 
 -- ---- what a write keeps
 
-pub byte_at-with_bytes_outside : (memory : List (List ℕ)) (at : ℕ) (new : List ℕ) (address : ℕ) → 65536 ≤ at → 65536 ≤ address → (address < at) ⊎ (at + length new ≤ address) → byte_at (with_bytes memory at new) address ≡ byte_at memory address
+pub byte_at-with_bytes_outside : (memory : List (List ℕ)) (at : ℕ) (new : List ℕ) (address : ℕ) → first_address ≤ at → first_address ≤ address → (address < at) ⊎ (at + length new ≤ address) → byte_at (with_bytes memory at new) address ≡ byte_at memory address
 byte_at-with_bytes_outside memory at [] address low_at low outside = refl
 byte_at-with_bytes_outside memory at (x ∷ new) address low_at low outside = ⊎_elim
     (λ (before : address < at).
@@ -46,7 +47,7 @@ byte_at-with_bytes_outside memory at (x ∷ new) address low_at low outside = �
     ∙ byte_at-with_byte_other memory at x address low_at low (λ same. omega arith))
     outside
 
-pub bytes_at-with_bytes_outside : (memory : List (List ℕ)) (at : ℕ) (new : List ℕ) (first len : ℕ) → 65536 ≤ at → 65536 ≤ first → (first + len ≤ at) ⊎ (at + length new ≤ first) → bytes_at (with_bytes memory at new) first len ≡ bytes_at memory first len
+pub bytes_at-with_bytes_outside : (memory : List (List ℕ)) (at : ℕ) (new : List ℕ) (first len : ℕ) → first_address ≤ at → first_address ≤ first → (first + len ≤ at) ⊎ (at + length new ≤ first) → bytes_at (with_bytes memory at new) first len ≡ bytes_at memory first len
 bytes_at-with_bytes_outside memory at new first zero low_at low outside = refl
 bytes_at-with_bytes_outside memory at new first (suc len) low_at low outside =
     let here : byte_at (with_bytes memory at new) first ≡ byte_at memory first = byte_at-with_bytes_outside memory at new first low_at low
@@ -59,10 +60,10 @@ bytes_at-with_bytes_outside memory at new first (suc len) low_at low outside =
 
 byte_at-with_byte : (memory : List (List ℕ)) (at x : ℕ) → All IsPage memory → is_held_at memory at ≡ true → byte_at (with_byte memory at x) at ≡ x
 byte_at-with_byte memory at x pages held =
-    let both = and_parts (nat_le 65536 at) (is_held memory (page_at at)) held in
+    let both = and_parts (nat_le first_address at) (is_held memory (page_at at)) held in
     let there = is_held-there memory (page_at at) both.1 in
     let bytes : List ℕ = page_bytes memory (page_at at) in
-    let long : length bytes ≡ 4096 = pages (page_at at) [] there (ltb-true 0 (length bytes) both.1) in
+    let long : length bytes ≡ page_size = pages (page_at at) [] there (ltb-true 0 (length bytes) both.1) in
     ap (λ (bs : List ℕ). get_or bs (offset_at at) 0) (get_or-set_same memory (page_at at) (set bytes (offset_at at) x) [] there)
     ∙ get_or-set_same bytes (offset_at at) x 0 (omega arith)
 
@@ -80,7 +81,7 @@ bytes_at-with_bytes memory at [] pages held = refl
 bytes_at-with_bytes memory at (x ∷ new) pages held =
     let next : List (List ℕ) = with_byte memory at x in
     let begins : is_held_at memory at ≡ true = held at (omega arith) (omega arith) in
-    let low : 65536 ≤ at = held_at-low memory at begins in
+    let low : first_address ≤ at = held_at-low memory at begins in
     let here : byte_at (with_bytes next (at + 1) new) at ≡ x = byte_at-with_bytes_outside next (at + 1) new at (omega arith) low (inl (omega arith)) ∙ byte_at-with_byte memory at x pages begins in
     let rest = bytes_at-with_bytes next (at + 1) new (pages-with_byte memory at x pages)
     (λ address from below. is_held_at-with_bytes memory at (x ∷ []) address ∙ held address (omega arith) (omega arith)) in

@@ -1,13 +1,19 @@
 ghost use Rattle.std.specs.Prelude.{◌≡◌, ◌≤◌, ◌<◌, ◌==◌, [], ◌∷◌, ◌++◌, length, drop, slice_get};
+ghost use Rattle.om_geom.specs.Numbers.{zone_pages};
 ghost use Rattle.om_frame.specs.Frames.{next_page, AreNeighbours};
 
 use crate::frame::Frame;
+use om_geom::ZONE_PAGES;
 use std::marker::Model;
 
-/// At most 32 frames of neighbouring pages, in ascending order. What moves between a zone and a pool.
+/// How many frames a bundle has place for.
+const PLACES: usize = ZONE_PAGES as usize;
+
+/// At most as many frames as a zone has pages, those of neighbouring pages, in ascending order. What moves
+/// between a zone and a pool.
 #[derive(Drop)]
 pub struct Bundle {
-    frames: [Option<Frame>; 32],
+    frames: [Option<Frame>; PLACES],
     len: u32,
 }
 
@@ -36,7 +42,7 @@ impl Bundle {
 
     /// Adds the frame of the next page; any page is the next where there is no frame yet.
     pub fn push(&mut self, frame: Frame)
-        requires few { length self.old < 32 }
+        requires few { length self.old < zone_pages }
         requires next { frame.page ≡ next_page self.old frame.page }
         ensures { self.new ≡ self.old ++ frame ∷ [] }
     {
@@ -60,7 +66,7 @@ impl Bundle {
     /// How many frames there are.
     pub fn len(&self) -> u32
         ensures len { result ≡ length self.now }
-        ensures few { result ≤ 32 }
+        ensures few { result ≤ zone_pages }
     {
         self.len
     }

@@ -1,12 +1,12 @@
 ghost use Rattle.std.specs.Prelude.{◌≡◌, IfOk};
 ghost use Rattle.om_frame.specs.Frames.{zero_frame};
 
-use om_geom::Page;
+use om_geom::{PAGE_SIZE, Page};
 use std::alloc::{AllocError, Global};
 use std::marker::Model;
 
 /// How many bytes a page has.
-const PAGE_BYTES: usize = 4096;
+const PAGE_BYTES: usize = PAGE_SIZE as usize;
 
 /// The bytes of one page. A frame is moved and never copied.
 #[derive(Drop)]
@@ -17,13 +17,14 @@ pub struct Frame {
 
 impl Model for Frame {
     ghost use Rattle.std.specs.Prelude.{◌≡◌, length};
+    ghost use Rattle.om_geom.specs.Numbers.{page_size};
     ghost use Rattle.om_frame.specs.Frames.{PageBytes};
 
     ghost Value = { PageBytes };
 
     ghost view = { λ f. record { page = f.page.0; bytes = f.block.items } };
 
-    ghost invariant = { λ f. length f.block.items ≡ 4096 };
+    ghost invariant = { λ f. length f.block.items ≡ page_size };
 }
 
 impl Frame {

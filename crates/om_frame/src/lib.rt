@@ -1,4 +1,4 @@
-//! Frames of 4096 bytes, and shelves that hold them and lend their bytes. Only `Frame::zeroed` and
+//! Frames of the bytes of a page, and shelves that hold them and lend their bytes. Only `Frame::zeroed` and
 //! `Shelf::new` take memory.
 #![tactic(auto)]
 

@@ -1,9 +1,10 @@
 ghost use Rattle.std.specs.Prelude.{◌≡◌, ◌+◌, ◌<◌, ◌≤◌, ◌==◌, not, length, IfSome};
 ghost use Rattle.std.specs.List.{position_from};
+ghost use Rattle.om_geom.specs.Numbers.{page_size, first_address};
 ghost use Rattle.om_frame.specs.Memory.{offset_at, filled, first_other, IsHeldPart};
 
 use crate::shelf::Shelf;
-use om_geom::Addr;
+use om_geom::{Addr, FIRST_ADDRESS, PAGE_SIZE};
 
 impl Shelf {
     /// Writes one byte to all of the `len` places from an address on, across pages.
@@ -51,12 +52,12 @@ fn first_other_in(bytes: &[u8], byte: u8) -> Option<usize>
 
 /// How many of `len` bytes from an address of the arena on are on its page.
 fn piece_len(at: Addr, len: u32) -> u32
-    requires arena { 65536 ≤ at.0 }
+    requires arena { first_address ≤ at.0 }
     requires some { 0 < len }
     ensures some { 0 < result }
     ensures within { result ≤ len }
-    ensures one_page { offset_at at.0 + result ≤ 4096 }
+    ensures one_page { offset_at at.0 + result ≤ page_size }
 {
-    let left = 4096 - (at.0 - 65536) % 4096;
-    len.min(left as u32)
+    let offset = (at.0 - FIRST_ADDRESS) % u64::from(PAGE_SIZE);
+    len.min(PAGE_SIZE - offset as u32)
 }

@@ -1,13 +1,14 @@
-ghost use Rattle.std.specs.Prelude.{◌≡◌, ◌+◌, ◌≤◌, ◌<◌, true, false, [], length, slice_set, All, IfOk};
+ghost use Rattle.std.specs.Prelude.{◌≡◌, ◌+◌, ◌*◌, ◌≤◌, ◌<◌, true, false, [], length, slice_set, All, IfOk};
 ghost use Rattle.std.specs.Borrow.{sem};
 ghost use Rattle.om_geom.specs.Addresses.{page_at};
+ghost use Rattle.om_geom.specs.Numbers.{page_size, zone_pages, most_zones, first_address};
 ghost use Rattle.om_frame.specs.Memory.{no_pages, offset_at, bytes_at, is_held, IsPage, IsHeldPart};
 ghost use Rattle.om_frame.specs.Frames.{with_frames, without_pages, zero_frame, zero_frames, AreHeld};
 ghost use Rattle.om_frame.specs.Lending.{LendsPart};
 
 use crate::bundle::Bundle;
 use crate::frame::Frame;
-use om_geom::{Addr, Page};
+use om_geom::{Addr, FIRST_ADDRESS, PAGE_SIZE, Page, ZONE_PAGES};
 use std::alloc::{AllocError, Global};
 use std::marker::Model;
 use std::mem;
@@ -23,24 +24,26 @@ pub struct Shelf {
 }
 
 impl Model for Shelf {
-    ghost use Rattle.std.specs.Prelude.{ℕ, ◌≤◌, List, length};
+    ghost use Rattle.std.specs.Prelude.{ℕ, ◌*◌, ◌≤◌, List, length};
+    ghost use Rattle.om_geom.specs.Numbers.{zone_pages, most_zones};
     ghost use Rattle.om_frame.specs.Blocks.{memory_of, AreBlocks};
 
     ghost Value = { List (List ℕ) };
 
     ghost view = { λ s. memory_of s.blocks.items };
 
-    ghost invariant = { λ s. (length s.blocks.items ≤ 2048) × AreBlocks s.blocks.items };
+    ghost invariant = { λ s.
+        (length s.blocks.items ≤ zone_pages * most_zones) × AreBlocks s.blocks.items };
 }
 
 impl Shelf {
     /// A shelf for the pages of an arena of this many zones, none of which is there yet.
     pub fn new(alloc: Global, zones: u32) -> Result<Shelf, AllocError>
         requires some_zone { 1 ≤ zones }
-        requires few_zones { zones ≤ 64 }
+        requires few_zones { zones ≤ most_zones }
         ensures { IfOk result (λ shelf. shelf ≡ no_pages zones) }
     {
-        let count = 32 * zones as usize;
+        let count = (ZONE_PAGES * zones) as usize;
         let mut blocks = Vec::with_capacity(alloc, count)?;
         for _ in 0..count {
             blocks.push(Vec::new(alloc))?;
@@ -66,7 +69,7 @@ impl Shelf {
 
     /// Gives the frames of `n` neighbouring pages, filled with zeros.
     pub fn remove(&mut self, first: Page, n: u32) -> Bundle
-        requires few { n ≤ 32 }
+        requires few { n ≤ zone_pages }
         requires there { AreHeld self.old first.0 n }
         ensures frames { result ≡ zero_frames first.0 n }
         ensures rest { self.new ≡ without_pages self.old first.0 n }
@@ -81,7 +84,7 @@ impl Shelf {
     /// The bytes from an address on, as many as asked for, all on one page.
     pub fn part(&self, at: Addr, len: u32) -> &[u8]
         requires held { IsHeldPart self.now at.0 len }
-        requires one_page { offset_at at.0 + len ≤ 4096 }
+        requires one_page { offset_at at.0 + len ≤ page_size }
         ensures { result.now ≡ bytes_at self.now at.0 len }
     {
         if len == 0 {
@@ -94,7 +97,7 @@ impl Shelf {
     /// The same bytes, to be written.
     pub fn part_mut(&mut self, at: Addr, len: u32) -> &mut [u8]
         requires held { IsHeldPart self.old at.0 len }
-        requires one_page { offset_at at.0 + len ≤ 4096 }
+        requires one_page { offset_at at.0 + len ≤ page_size }
         ensures* writes_back { sem 𝓛 (LendsPart self.entry at.0 len result) }
         ensures bytes { result.now ≡ bytes_at self.old at.0 len }
     {
@@ -108,9 +111,9 @@ impl Shelf {
 }
 
 impl Shelf {
-    /// A law of the type: the arena has at most 2048 pages, and a page has 4096 bytes or none.
+    /// A law of the type: the arena has at most `MOST_ZONES` zones, and a page has its bytes or none.
     pub fn fits(&self)
-        ensures few { length self.now ≤ 2048 }
+        ensures few { length self.now ≤ zone_pages * most_zones }
         ensures pages { All IsPage self.now }
     {
         let _blocks = &self.blocks;
@@ -143,10 +146,11 @@ impl Shelf {
 
 /// The page of an address of the arena, and the number of its byte there.
 fn locate(at: Addr) -> (usize, usize)
-    requires { 65536 ≤ at.0 }
+    requires { first_address ≤ at.0 }
     ensures page { result.0 ≡ page_at at.0 }
     ensures offset { result.1 ≡ offset_at at.0 }
 {
-    let byte = at.0 - 65536;
-    ((byte / 4096) as usize, (byte % 4096) as usize)
+    let byte = at.0 - FIRST_ADDRESS;
+    let size = u64::from(PAGE_SIZE);
+    ((byte / size) as usize, (byte % size) as usize)
 }

@@ -1,17 +1,18 @@
--- Memory has the bytes of the held pages, and no others: where a page comes or goes, and where bytes are written. What
+-- Memory has the bytes of the held pages, and no others: where pages come or go, and where bytes are written. What
 -- is written changes memory alone.
-use Rattle.std.proofs.Common.{◌≡◌, ℕ, ◌*◌, ◌<◌, Bool, true, false, not, ◌&&◌, ◌||◌, ◌==◌, List, [], length, set, replicate, if◌then◌else◌, refl, ap, ◌∙◌, arith}
-use Rattle.std.proofs.lemmas.Bool.{cases_eq, cases_lt}
-use Rattle.std.proofs.lemmas.Bool.Decides.{nat_tests}
-use Rattle.std.proofs.lemmas.List.{get_or-replicate, get_or-set_same, get_or-set_other, get_or_past, length-set, length-replicate}
+use Rattle.std.proofs.Common.{◌≡◌, ◌≢◌, ℕ, zero, suc, ◌+◌, ◌*◌, ◌<◌, ◌≤◌, Bool, true, false, not, ◌&&◌, ◌||◌, ◌==◌, nat_le, nat_lt, List, [], length, map, set, replicate, if◌then◌else◌, refl, sym, ap, ◌∙◌, arith}
+use Rattle.std.specs.List.{range_with_len, AllByRecursion}
+use Rattle.std.proofs.lemmas.Bool.{true≢false, cases_Bool, cases_eq, cases_lt, and_parts, and_from, leb-true, le-leb, ltb-true, lt-ltb}
+use Rattle.std.proofs.lemmas.List.{get_or-replicate, get_or-set_same, get_or_past, length-set, length-replicate}
 use mathlib.Core.Logic.{⊎_elim}
 use Rattle.om_frame.specs.Frames as frames
-use Rattle.om_frame.specs.Frames.{zeros}
+use Rattle.om_frame.specs.FrameLaws.{length-with_frames, page_bytes-with_frames, page_bytes-with_zeros}
+use Rattle.om_frame.specs.Frames.{PageBytes, zeros, empty_frame}
 use Rattle.om_frame.specs.Memory.{page_bytes, no_pages}
 use Rattle.om_frame.specs.MemoryLaws.{length-with_bytes, length-page-with_bytes}
 use Rattle.om_geom.specs.declared.address.Extent.{Extent}
 use Rattle.om_geom.specs.Numbers.{page_size, zone_pages}
-use Rattle.om_model.specs.Pool.Junk.{fresh_byte, freed_byte, data_extent, extent_of_place, with_fresh_junk, with_freed_place, with_freed_pages}
+use Rattle.om_model.specs.Pool.Junk.{fresh_byte, freed_byte, freed_len, data_extent, extent_of_place, with_fresh_junk, with_freed_place, with_freed_pages}
 use Rattle.om_model.specs.Pool.Rules.{Rules}
 use Rattle.om_model.specs.Pool.Runs.{Run, is_page_of}
 use Rattle.om_model.specs.Pool.State.{State, opening, is_held, with_run, without_run, with_pages, without_pages, filled_with, written}
@@ -36,6 +37,32 @@ long : length zeros ≡ page_size
 unfolding zeros
 long = length-replicate {A = ℕ} page_size 0
 
+-- frames of other pages
+elsewhere : (make : ℕ → PageBytes) → ((p : ℕ) → (make p).page ≡ p) → (first n page : ℕ) → (first ≤ page → page < first + n → ⊥) → AllByRecursion (λ (frame : PageBytes). page ≢ frame.page) (map make (range_with_len first n))
+elsewhere make is first zero page out = tt
+elsewhere make is first (suc n) page out =
+    ((λ same. let here = is first in out (omega arith) (omega arith)), elsewhere make is (first + 1) n page (λ low high. out (omega arith) (omega arith)))
+
+-- a page that left has no bytes
+emptied : (memory : List (List ℕ)) (first n page : ℕ) → first ≤ page → page < first + n → page_bytes (frames.without_pages memory first n) page ≡ []
+emptied memory first zero page low high = absurd (omega arith)
+emptied memory first (suc n) page low high =
+    let next : List (List ℕ) = set memory first [] in
+    ⊎_elim
+    (λ (here : page ≡ first).
+    page_bytes-with_frames next (map empty_frame (range_with_len (first + 1) n)) page (elsewhere empty_frame (λ p. refl) (first + 1) n page (λ low high. omega arith))
+    ∙ ap (page_bytes next) here
+    ∙ ⊎_elim
+    (λ there. get_or-set_same memory first [] [] there)
+    (λ past. get_or_past next first [] (omega (arith, length-set memory first [])))
+    (cases_lt first (length memory)))
+    (λ other. emptied next (first + 1) n page (omega arith) (omega arith))
+    (cases_eq page first)
+
+or_true : (b : Bool) → (b || true) ≡ true
+or_true true = refl
+or_true false = refl
+
 or_false : (b : Bool) → (b || false) ≡ b
 or_false true = refl
 or_false false = refl
@@ -48,58 +75,47 @@ and_false : (b : Bool) → (b && false) ≡ false
 and_false true = refl
 and_false false = refl
 
-module _ (state : State) (run : Run) (one : run.count ≡ 1) where
-  in_run : is_page_of run run.first ≡ true
-  in_run = grind (arith, nat_tests)
+module _ (state : State) (run : Run) where
+  within : (page : ℕ) → is_page_of run page ≡ true → (run.first ≤ page) × (page < run.first + run.count)
+  within page inside =
+      let parts = and_parts (nat_le run.first page) (nat_lt page (run.first + run.count)) inside in
+      (leb-true run.first page parts.0, ltb-true page (run.first + run.count) parts.1)
 
-  not_in_run : (page : ℕ) → (page ≡ run.first → ⊥) → is_page_of run page ≡ false
-  not_in_run page other = grind (arith, nat_tests)
-
-  come : frames.with_frames state.memory (frames.zero_frames run.first run.count) ≡ set state.memory run.first zeros
-  come = ap (λ n. frames.with_frames state.memory (frames.zero_frames run.first n)) one
-
-  gone : frames.without_pages state.memory run.first run.count ≡ set state.memory run.first []
-  gone = ap (λ n. frames.without_pages state.memory run.first n) one
+  outside : (page : ℕ) → is_page_of run page ≡ false → run.first ≤ page → page < run.first + run.count → ⊥
+  outside page isnt low high = let yes : is_page_of run page ≡ true = and_from _ _ (le-leb run.first page low) (lt-ltb page (run.first + run.count) high) in true≢false (sym yes ∙ isnt)
 
   module _ (bytes : (page : ℕ) → HasBytes state page) where
-    pub come-bytes : run.first < length state.memory → (page : ℕ) → HasBytes (with_pages run state) page
-    come-bytes there page =
+    pub come-bytes : run.first + run.count ≤ length state.memory → (page : ℕ) → HasBytes (with_pages run state) page
+    come-bytes fits page =
         let held : is_held (with_run run state.held) page ≡ (is_held state.held page || is_page_of run page) = held-with_run run state.held page in
         ⊎_elim
-        (λ (here : page ≡ run.first).
-        let inside : (is_held state.held page || is_page_of run page) ≡ true = rw (here, in_run) (or_true (is_held state.held run.first)) in
-        let now : page_bytes (set state.memory run.first zeros) page ≡ zeros = rw here (get_or-set_same state.memory run.first zeros [] there) in
-        rw (held, inside, come, now) long)
-        (λ other.
-        let outside : (is_held state.held page || is_page_of run page) ≡ is_held state.held page = rw (not_in_run page other) (or_false (is_held state.held page)) in
-        rw (held, outside, come, get_or-set_other state.memory run.first page zeros [] other) (bytes page))
-        (cases_eq page run.first)
-      where
-        or_true : (b : Bool) → (b || true) ≡ true
-        or_true true = refl
-        or_true false = refl
+        (λ (t : is_page_of run page ≡ true).
+        let inside : (is_held state.held page || is_page_of run page) ≡ true = rw t (or_true (is_held state.held page)) in
+        let parts = within page t in
+        rw (held, inside, page_bytes-with_zeros state.memory run.first run.count page parts.0 parts.1 fits) long)
+        (λ (f : is_page_of run page ≡ false).
+        let same : (is_held state.held page || is_page_of run page) ≡ is_held state.held page = rw f (or_false (is_held state.held page)) in
+        rw (held, same, page_bytes-with_frames state.memory (frames.zero_frames run.first run.count) page (elsewhere frames.zero_frame (λ p. refl) run.first run.count page (outside page f))) (bytes page))
+        (cases_Bool (is_page_of run page))
 
     pub gone-bytes : (page : ℕ) → HasBytes (without_pages run state) page
     gone-bytes page =
         let held : is_held (without_run run state.held) page ≡ (is_held state.held page && not (is_page_of run page)) = held-without_run run state.held page in
         ⊎_elim
-        (λ (here : page ≡ run.first).
-        let outside : (is_held state.held page && not (is_page_of run page)) ≡ false = rw (here, in_run) (and_false (is_held state.held run.first)) in
-        let now : page_bytes (set state.memory run.first []) page ≡ [] = rw here (⊎_elim
-        (λ there. get_or-set_same state.memory run.first [] [] there)
-        (λ past. get_or_past (set state.memory run.first []) run.first [] (omega (arith, length-set state.memory run.first [])))
-        (cases_lt run.first (length state.memory))) in
-        rw (held, outside, gone, now) refl)
-        (λ other.
-        let inside : (is_held state.held page && not (is_page_of run page)) ≡ is_held state.held page = rw (not_in_run page other) (and_true (is_held state.held page)) in
-        rw (held, inside, gone, get_or-set_other state.memory run.first page [] [] other) (bytes page))
-        (cases_eq page run.first)
+        (λ (t : is_page_of run page ≡ true).
+        let none : (is_held state.held page && not (is_page_of run page)) ≡ false = rw t (and_false (is_held state.held page)) in
+        let parts = within page t in
+        rw (held, none, emptied state.memory run.first run.count page parts.0 parts.1) refl)
+        (λ (f : is_page_of run page ≡ false).
+        let same : (is_held state.held page && not (is_page_of run page)) ≡ is_held state.held page = rw f (and_true (is_held state.held page)) in
+        rw (held, same, page_bytes-with_frames state.memory (map empty_frame (range_with_len run.first run.count)) page (elsewhere empty_frame (λ p. refl) run.first run.count page (outside page f))) (bytes page))
+        (cases_Bool (is_page_of run page))
 
   pub come-pages : length ((with_pages run state).memory) ≡ length state.memory
-  come-pages = ap length come ∙ length-set state.memory run.first zeros
+  come-pages = length-with_frames state.memory (frames.zero_frames run.first run.count)
 
   pub gone-pages : length ((without_pages run state).memory) ≡ length state.memory
-  gone-pages = ap length gone ∙ length-set state.memory run.first []
+  gone-pages = length-with_frames state.memory (map empty_frame (range_with_len run.first run.count))
 
 -- ---- bytes that are written
 
@@ -109,7 +125,7 @@ module _ (rules : Rules) (state : State) (is : IsSound rules state) where
       let new = replicate extent.len byte in
       record {
         slots = is.slots;
-        chunks = is.chunks;
+        zoned = is.zoned;
         ascends = is.ascends;
         arena = is.arena;
         pages = length-with_bytes state.memory extent.first new ∙ is.pages;
@@ -127,6 +143,10 @@ module _ (rules : Rules) (state : State) (is : IsSound rules state) where
   pub fresh-sound : (block : Block) → IsSound rules (with_fresh_junk rules block state)
   unfolding with_fresh_junk
   fresh-sound block = either (rules.options.junk == 2) _ state (filled-sound fresh_byte (data_extent rules block)) is
+
+  pub freed_pages-sound : (block : Block) → IsSound rules (with_freed_pages rules block state)
+  unfolding with_freed_pages
+  freed_pages-sound block = filled-sound freed_byte (record { first = block.address; len = freed_len rules.options.junk block.size })
 
   pub freed-sound : (place : Place) → IsSound rules (with_freed_place rules place state)
   unfolding with_freed_place

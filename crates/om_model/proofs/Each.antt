@@ -15,6 +15,11 @@ pub all-both : {X : Type 0} (P Q R : X → Type 0) (xs : List X) → ((x : X) �
 all-both P Q R [] step first second = tt
 all-both P Q R (x ∷ xs) step first second = (step x first.0 second.0, all-both P Q R xs step first.1 second.1)
 
+-- what is so of all, at each index, is at each index so of each
+pub all-each : {I X : Type 0} (P : I → Type 0) (Q : I → X → Type 0) (xs : List X) → ((i : I) → P i → AllByRecursion (Q i) xs) → AllByRecursion (λ x. (i : I) → P i → Q i x) xs
+all-each P Q [] each = tt
+all-each P Q (x ∷ xs) each = ((λ i here. (each i here).0), all-each P Q xs (λ i here. (each i here).1))
+
 pub all-append : {X : Type 0} (P : X → Type 0) (xs ys : List X) → AllByRecursion P xs → AllByRecursion P ys → AllByRecursion P (xs ++ ys)
 all-append P [] ys first second = second
 all-append P (x ∷ xs) ys first second = (first.0, all-append P xs ys first.1 second)
@@ -26,11 +31,6 @@ all-first P (x ∷ xs) ys all = (all.0, all-first P xs ys all.1)
 pub all-second : {X : Type 0} (P : X → Type 0) (xs ys : List X) → AllByRecursion P (xs ++ ys) → AllByRecursion P ys
 all-second P [] ys all = all
 all-second P (x ∷ xs) ys all = all-second P xs ys all.1
-
--- one more stands between two lists
-pub all-insert : {X : Type 0} (P : X → Type 0) (new : X) (xs ys : List X) → P new → AllByRecursion P (xs ++ ys) → AllByRecursion P ((xs ++ new ∷ []) ++ ys)
-all-insert P new [] ys here all = (here, all)
-all-insert P new (x ∷ xs) ys here all = (all.0, all-insert P new xs ys here all.1)
 
 all-cond : {X : Type 0} (P : X → Type 0) (here : Bool) (x : X) (xs : List X) → (here ≡ true → P x) → AllByRecursion P xs → AllByRecursion P (cond here (x ∷ xs) xs)
 all-cond P true x xs first rest = (first refl, rest)
@@ -99,10 +99,13 @@ all-range a (suc n) = (omega arith, all-weaker (λ i. i < (a + 1) + n) (λ i. i 
 
 -- ---- each pair
 
-pub pairs-insert : {X : Type 0} (R : X → X → Type 0) (new : X) (xs ys : List X) → AllByRecursion (R new) (xs ++ ys) → AllByRecursion (λ x. R x new) (xs ++ ys) → EachPair R (xs ++ ys) → EachPair R ((xs ++ new ∷ []) ++ ys)
-pairs-insert R new [] ys before after pairs = (before, pairs)
-pairs-insert R new (x ∷ xs) ys before after pairs =
-    (all-insert (R x) new xs ys after.0 pairs.0, pairs-insert R new xs ys before.1 after.1 pairs.1)
+pub pairs-weaker : {X : Type 0} (R S : X → X → Type 0) (xs : List X) → ((a b : X) → R a b → S a b) → EachPair R xs → EachPair S xs
+pairs-weaker R S [] step pairs = tt
+pairs-weaker R S (x ∷ xs) step pairs = (all-weaker (R x) (S x) xs (λ y. step x y) pairs.0, pairs-weaker R S xs step pairs.1)
+
+pub pairs-both : {X : Type 0} (R S T : X → X → Type 0) (xs : List X) → ((a b : X) → R a b → S a b → T a b) → EachPair R xs → EachPair S xs → EachPair T xs
+pairs-both R S T [] step first second = tt
+pairs-both R S T (x ∷ xs) step first second = (all-both (R x) (S x) (T x) xs (λ y. step x y) first.0 second.0, pairs-both R S T xs step first.1 second.1)
 
 pub pairs-first : {X : Type 0} (R : X → X → Type 0) (xs ys : List X) → EachPair R (xs ++ ys) → EachPair R xs
 pairs-first R [] ys pairs = tt
@@ -135,3 +138,28 @@ pairs-all R (x ∷ xs) self swap pairs = (
   (self x, pairs.0),
   all-both (λ y. AllByRecursion (R y) xs) (λ y. R y x) (λ y. AllByRecursion (R y) (x ∷ xs)) xs (λ y all back. (back, all)) (pairs-all R xs self swap pairs.1) (all-weaker (R x) (λ y. R y x) xs (λ y. swap x y) pairs.0),
 )
+
+-- ---- two lists
+
+abbrev pub Across : {X : Type 0} → (X → X → Type 0) → List X → List X → Type 0
+Across R xs ys = AllByRecursion (λ x. AllByRecursion (R x) ys) xs
+
+pub across-swap : {X : Type 0} (R : X → X → Type 0) (xs ys : List X) → ((a b : X) → R a b → R b a) → Across R xs ys → Across R ys xs
+across-swap R xs [] swap all = tt
+across-swap R xs (y ∷ ys) swap all = (
+  all-weaker (λ x. AllByRecursion (R x) (y ∷ ys)) (R y) xs (λ x both. swap x y both.0) all,
+  across-swap R xs ys swap (all-weaker (λ x. AllByRecursion (R x) (y ∷ ys)) (λ x. AllByRecursion (R x) ys) xs (λ x both. both.1) all),
+)
+
+-- more stand between two lists
+pub all-between : {X : Type 0} (P : X → Type 0) (new xs ys : List X) → AllByRecursion P new → AllByRecursion P (xs ++ ys) → AllByRecursion P ((xs ++ new) ++ ys)
+all-between P new xs ys own all = all-append P (xs ++ new) ys (all-append P xs new (all-first P xs ys all) own) (all-second P xs ys all)
+
+pub pairs-between : {X : Type 0} (R : X → X → Type 0) (new xs ys : List X) → ((a b : X) → R a b → R b a) → EachPair R new → Across R new (xs ++ ys) → EachPair R (xs ++ ys) → EachPair R ((xs ++ new) ++ ys)
+pairs-between R new xs ys swap own others pairs =
+    pairs-append R (xs ++ new) ys
+    (pairs-append R xs new (pairs-first R xs ys pairs) own
+    (across-swap R new xs swap (all-weaker (λ u. AllByRecursion (R u) (xs ++ ys)) (λ u. AllByRecursion (R u) xs) new (λ u. all-first (R u) xs ys) others)))
+    (pairs-second R xs ys pairs)
+    (all-append (λ x. AllByRecursion (R x) ys) xs new (pairs-across R xs ys pairs)
+    (all-weaker (λ u. AllByRecursion (R u) (xs ++ ys)) (λ u. AllByRecursion (R u) ys) new (λ u. all-second (R u) xs ys) others))

@@ -1,29 +1,33 @@
--- Free keeps states sound: a place moves from its block to a slot, and only a page that nothing touches is given
--- up.
-use Rattle.std.proofs.Common.{◌≡◌, ℕ, zero, suc, ◌+◌, ◌*◌, Bool, true, false, not, ◌==◌, ◌<◌, if◌then◌else◌, nat_le, nat_lt, List, [], ◌∷◌, ◌++◌, length-set, map, Option, Some, None, IsSome, cond, slice_set, refl, sym, ap, ◌∙◌, subst, arith}
-use Rattle.std.specs.List.{filter, find, flat_map, AllByRecursion}
+-- Free keeps states sound: a place moves from its block to a slot, a page block leaves its pages, and only pages that
+-- nothing touches are given up.
+use Rattle.std.proofs.Common.{◌≡◌, ℕ, zero, suc, ◌+◌, ◌*◌, Bool, true, false, not, ◌==◌, ◌<◌, ◌≤◌, if◌then◌else◌, nat_le, nat_lt, List, [], ◌∷◌, ◌++◌, length-set, map, Option, Some, None, slice_set, refl, sym, ap, ◌∙◌, subst, arith}
+use Rattle.std.specs.List.{find, flat_map, AllByRecursion}
 use Rattle.std.specs.Option.{option_map}
-use Rattle.std.proofs.lemmas.Bool.{cases_Bool, and_from, eqb-true, eqb-false, and_left, and_right, not-true, not_from_false, ltb-true, leb-true}
+use Rattle.std.proofs.lemmas.Bool.{cases_Bool, cases_lt, and_from, and_parts, eqb-true, not_from_false, ltb-true, leb-true}
 use mathlib.Core.Logic.{⊎_elim}
-use Rattle.om_geom.specs.Addresses.{page_at}
+use Rattle.om_geom.specs.Addresses.{address_of, page_at, page_extent}
+use Rattle.om_geom.specs.AddressLaws.{SharesByte-true}
+use Rattle.om_geom.specs.Classes.{data_pages}
 use Rattle.om_geom.specs.FitLaws.{find-passes}
-use Rattle.om_geom.specs.Numbers.{zone_pages}
-use Rattle.om_model.specs.Pool.Rules.{Rules, size_class}
+use Rattle.om_geom.specs.Numbers.{page_size, zone_pages}
+use Rattle.om_model.specs.Pool.Junk.{with_freed_pages}
+use Rattle.om_model.specs.Pool.Rules.{Rules, size_class, guard_pages, block_pages}
 use Rattle.om_model.specs.Pool.Runs.{Run, is_page_of}
 use Rattle.om_model.specs.Pool.State.{State, delayed, drawn_more, holds, without_run, without_pages}
-use Rattle.om_model.specs.Pool.InUse.{Kind, Chunk, Pages, Guard, Use, use_of_place, uses_by_class, uses_of_block, uses, touches, begins_at, is_free_page, page_kind}
+use Rattle.om_model.specs.Pool.InUse.{Kind, Chunk, Pages, Guard, Use, use_of_place, data_of, guard_of, uses_by_class, uses_of_block, uses, touches, is_free_page, page_kind}
 use Rattle.om_model.specs.Pool.Picks.{starts_place}
-use Rattle.om_model.specs.Pool.Standing.{Unaligned, NotHeld, block_at, delayed_at, at_place, on_page}
-use Rattle.om_model.specs.Pool.Free.{is_surplus, kept_or_let_go, evicted, drawn_slot, slot_of, into_slot, put_off, delay, freed_again, free_at, free}
-use Rattle.om_model.specs.Pool.WellFormed.{EachPair}
+use Rattle.om_model.specs.Pool.Standing.{PageBlock, Unaligned, NotHeld, block_at, delayed_at, in_pages, at_place, on_page}
+use Rattle.om_model.specs.Pool.Free.{is_surplus, kept_or_let_go, evicted, without_block, drawn_slot, slot_of, into_slot, put_off, delay, freed_again, free_at, free}
+use Rattle.om_model.specs.Pool.WellFormed.{EachPair, AreAlike, AreApart, AgreeOnPages, FitsZone}
 use Rattle.om_model.specs.declared.block.Block.{Block}
 use Rattle.om_model.specs.declared.block.Place.{Place}
-use Rattle.om_model.proofs.Each.{all-weaker, all-both, all-append, all-first, all-second, all-filter, all-find, passes-filter, pairs-all, pairs-first, pairs-second, pairs-across, pairs-append, pairs-filter}
-use Rattle.om_model.proofs.Bytes.{gone-pages, gone-bytes, freed-sound}
+use Rattle.om_model.proofs.Each.{Across, all-weaker, all-both, all-each, all-append, all-first, all-second, all-filter, all-find, pairs-all, pairs-weaker, pairs-second, pairs-first, pairs-across, pairs-append, pairs-filter}
+use Rattle.om_model.proofs.Flat.{all-flat, all-flat_filter, pairs-flat_filter, across-left}
+use Rattle.om_model.proofs.Bytes.{gone-pages, gone-bytes, freed-sound, freed_pages-sound}
 use Rattle.om_model.proofs.Held.{held-filter}
-use Rattle.om_model.proofs.Sound.{IsPlaced, Differ, Alike, AreSound, IsSound, first_of, placed-page, placed-kind, touches-placed}
-use Rattle.om_model.proofs.Places.{untouched-from_free}
-use Rattle.om_model.proofs.Malloc.{drawn_more-sound}
+use Rattle.om_model.proofs.Sound.{IsPlaced, GoTogether, AreSound, IsSound, shape-begins, touches-first, alike-self, alike-swap, together-swap}
+use Rattle.om_model.proofs.Places.{IsUntouched, not-touched, untouched-free}
+use Rattle.om_model.proofs.Malloc.{drawn_more-sound, guard_count, pages-uses}
 
 -- ---- slots, of which one is set
 
@@ -31,7 +35,7 @@ use Rattle.om_model.proofs.Malloc.{drawn_more-sound}
 abbrev waiting : List (Option Place) → List Use
 waiting slots = map use_of_place (delayed slots)
 
-all-slot : (P : Use → Type 0) (new : Place) (slots : List (Option Place)) (k : ℕ) → P (use_of_place new) → AllByRecursion P (waiting slots) → AllByRecursion P (waiting (slice_set slots k (Some new)))
+pub all-slot : (P : Use → Type 0) (new : Place) (slots : List (Option Place)) (k : ℕ) → P (use_of_place new) → AllByRecursion P (waiting slots) → AllByRecursion P (waiting (slice_set slots k (Some new)))
 all-slot P new [] k here all = tt
 all-slot P new (None ∷ slots) zero here all = (here, all)
 all-slot P new (Some x ∷ slots) zero here all = (here, all.1)
@@ -46,146 +50,78 @@ pairs-slot R new (Some x ∷ slots) zero before after pairs = (before.1, pairs.1
 pairs-slot R new (None ∷ slots) (suc k) before after pairs = pairs-slot R new slots k before after pairs
 pairs-slot R new (Some x ∷ slots) (suc k) before after pairs = (all-slot (R (use_of_place x)) new slots k after.0 pairs.0, pairs-slot R new slots k before.1 after.1 pairs.1)
 
--- ---- a run of one page becomes free
+-- ---- a run of pages becomes free
 
-not_in_run : (page other : ℕ) → (other ≡ page → ⊥) → is_page_of (record { first = page; count = 1 }) other ≡ false
-not_in_run page other ne = ⊎_elim
-    (λ from. ⊎_elim
-    (λ below.
-    let low = leb-true page other from in
-    let high = ltb-true other (page + 1) below in
-    absurd (ne (omega arith)))
-    (λ above. and_right _ _ above)
-    (cases_Bool (nat_lt other (page + 1))))
-    (λ before. and_left _ _ before)
-    (cases_Bool (nat_le page other))
+-- nothing in use touches the run's pages
+abbrev pub IsFreeRun : List Use → Run → Type 0
+IsFreeRun used run = (page : ℕ) → is_page_of run page ≡ true → IsUntouched used page
 
-let_go-sound : (rules : Rules) (state : State) (page : ℕ) → is_free_page (uses rules state) page ≡ true → IsSound rules state
-    → IsSound rules (without_pages (record { first = page; count = 1 }) state)
-let_go-sound rules state page free_is is =
-    let run : Run = record { first = page; count = 1 } in
+let_go-sound : (rules : Rules) (state : State) (run : Run) → IsFreeRun (uses rules state) run → IsSound rules state → IsSound rules (without_pages run state)
+let_go-sound rules state run free_is is =
     let used = uses rules state in
     let sound = is.sound in
-    let kept : ℕ → Bool = λ other. not (is_page_of run other) in
+    let kept : ℕ → Bool = λ page. not (is_page_of run page) in
+    let P : Use → Type 0 = λ one. (page : ℕ) → is_page_of run page ≡ true → touches page one ≡ false in
     record {
       slots = is.slots;
-      chunks = is.chunks;
+      zoned = is.zoned;
       ascends = pairs-filter ◌<◌ kept state.held is.ascends;
       arena = all-filter (λ p. p < zone_pages * rules.zones) kept state.held is.arena;
-      pages = gone-pages state run refl ∙ is.pages;
-      bytes = gone-bytes state run refl is.bytes;
+      pages = gone-pages state run ∙ is.pages;
+      bytes = gone-bytes state run is.bytes;
       sound = record {
-        placed = all-both (λ one. page_at (first_of one) ≡ page → ⊥) (IsPlaced rules state.held) (IsPlaced rules (without_run run state.held)) used
+        placed = all-both P (IsPlaced rules state.held) (IsPlaced rules (without_run run state.held)) used
             (λ one untouched on. record {
-              page = on.page;
-              index = on.index;
-              class = on.class;
-              is = on.is;
-              below = on.below;
-              one_is = on.one_is;
-              held_is = held-filter kept state.held on.page ∙ and_from _ _ on.held_is
-                  (not_from_false (is_page_of run on.page) (not_in_run page on.page (λ same. untouched (placed-page rules state.held one on ∙ same))));
+              shape = on.shape;
+              held_is = λ page touched. held-filter kept state.held page ∙ and_from _ _ (on.held_is page touched)
+                  (⊎_elim
+                  (λ within. absurd (not-touched page one (untouched page within) touched))
+                  (λ outside. not_from_false (is_page_of run page) outside)
+                  (cases_Bool (is_page_of run page)));
               there = on.there;
             })
-            (untouched-from_free rules state.held used sound.placed page free_is) sound.placed;
-        differ = sound.differ;
-        alike = sound.alike;
+            (all-each (λ page. is_page_of run page ≡ true) (λ page one. touches page one ≡ false) used free_is) sound.placed;
+        together = sound.together;
       };
     }
 
-kept_or_let_go-sound : (rules : Rules) (state : State) (page : ℕ) → is_free_page (uses rules state) page ≡ true → IsSound rules state → IsSound rules ((kept_or_let_go rules state (record { first = page; count = 1 })).next)
+kept_or_let_go-sound : (rules : Rules) (state : State) (run : Run) → IsFreeRun (uses rules state) run → IsSound rules state → IsSound rules ((kept_or_let_go rules state run).next)
 unfolding kept_or_let_go
-kept_or_let_go-sound rules state page free_is is = ⊎_elim
-    (λ surplus. rw surplus (let_go-sound rules state page free_is is))
+kept_or_let_go-sound rules state run free_is is = ⊎_elim
+    (λ surplus. rw surplus (let_go-sound rules state run free_is is))
     (λ kept. rw kept is)
     (cases_Bool (is_surplus rules state))
 
+-- the page, where it is free
+one-page : (page other : ℕ) → is_page_of (record { first = page; count = 1 }) other ≡ true → page ≡ other
+one-page page other within =
+    let parts = and_parts (nat_le page other) (nat_lt other (page + 1)) within in
+    let low = leb-true page other parts.0 in
+    let high = ltb-true other (page + 1) parts.1 in
+    omega arith
+
 evicted-sound : (rules : Rules) (state : State) (slot : Option Place) → IsSound rules state → IsSound rules ((evicted rules state slot).next)
 evicted-sound rules state None is = is
-evicted-sound rules state (Some place) is = ⊎_elim
-    (λ free_is. rw free_is (kept_or_let_go-sound rules state (page_at place.address) free_is is))
-    (λ used. rw used is)
-    (cases_Bool (is_free_page (uses rules state) (page_at place.address)))
+evicted-sound rules state (Some place) is =
+    let used = uses rules state in
+    let page = page_at place.address in
+    ⊎_elim
+    (λ free_is. rw free_is (kept_or_let_go-sound rules state (record { first = page; count = 1 })
+    (λ other within. subst (IsUntouched used) (one-page page other within) (untouched-free used page free_is)) is))
+    (λ in_use. rw in_use is)
+    (cases_Bool (is_free_page used page))
 
--- ---- blocks and what they use
+-- what has all bytes of a page leaves none to what is apart from it
+page-untouched : (one other : Use) (page : ℕ) → (one.extent).first ≤ address_of page → address_of page + page_size ≤ (one.extent).first + (one.extent).len → AreApart one other → touches page other ≡ false
+page-untouched one other page low high apart = ⊎_elim
+    (λ touched.
+    let shared = SharesByte-true (page_extent page) other.extent touched in
+    let on_page = shared.1 in
+    absurd (apart (shared.0, (omega arith, omega arith), shared.2)))
+    (λ untouched. untouched)
+    (cases_Bool (touches page other))
 
-all-flat : (P : Use → Type 0) (rules : Rules) (live : List Block) → AllByRecursion P (flat_map (uses_of_block rules) live) → AllByRecursion (λ block. AllByRecursion P (uses_of_block rules block)) live
-all-flat P rules [] all = tt
-all-flat P rules (x ∷ xs) all = (all-first P (uses_of_block rules x) (flat_map (uses_of_block rules) xs) all, all-flat P rules xs (all-second P (uses_of_block rules x) (flat_map (uses_of_block rules) xs) all))
-
--- the class of a size that has one
-record HasClass (found : Option ℕ) : Type 0 where
-  class : ℕ
-  is : found ≡ Some class
-
-has-class : (found : Option ℕ) → IsSome found → HasClass found
-has-class None some = cc
-has-class (Some class) some = record { class = class; is = refl }
-
-abbrev is_elsewhere : ℕ → Block → Bool
-is_elsewhere address block = not (block.address == address)
-
-abbrev begins_elsewhere : ℕ → Use → Bool
-begins_elsewhere address one = not (begins_at address one)
-
-flat-cond : (rules : Rules) (x : Block) (rest : List Block) (here : Bool) → flat_map (uses_of_block rules) (cond here (x ∷ rest) rest) ≡ cond here (uses_of_block rules x ++ flat_map (uses_of_block rules) rest) (flat_map (uses_of_block rules) rest)
-flat-cond rules x rest true = refl
-flat-cond rules x rest false = refl
-
--- what the blocks elsewhere use
-flat-elsewhere : (rules : Rules) (address : ℕ) (live : List Block) → AllByRecursion (λ block. IsSome (size_class rules block.size)) live
-    → flat_map (uses_of_block rules) (filter (is_elsewhere address) live) ≡ filter (begins_elsewhere address) (flat_map (uses_of_block rules) live)
-flat-elsewhere rules address [] chunks = refl
-flat-elsewhere rules address (x ∷ xs) chunks =
-    let f = uses_of_block rules in
-    let has = has-class (size_class rules x.size) chunks.0 in
-    let one : Use = use_of_place (record { address = x.address; class = has.class }) in
-    let uses_x : uses_of_block rules x ≡ one ∷ [] = ap (uses_by_class rules x) has.is in
-    let rest = flat_map (uses_of_block rules) (filter (is_elsewhere address) xs) in
-    flat-cond rules x (filter (is_elsewhere address) xs) (is_elsewhere address x)
-    ∙ ap (λ ys. cond (is_elsewhere address x) (ys ++ rest) rest) uses_x
-    ∙ ap (λ r. cond (is_elsewhere address x) (one ∷ r) r) (flat-elsewhere rules address xs chunks.1)
-    ∙ ap (λ ys. filter (begins_elsewhere address) (ys ++ flat_map (uses_of_block rules) xs)) (sym uses_x)
-
--- ---- a live place is put off
-
--- a relation of each pair stays where some leave the first list and a place enters a slot
-pairs-delay : (R : Use → Use → Type 0) (test : Use → Bool) (new : Place) (xs : List Use) (slots : List (Option Place)) (k : ℕ)
-    → AllByRecursion (λ x. R x (use_of_place new)) (filter test xs) → AllByRecursion (R (use_of_place new)) (waiting slots) → AllByRecursion (λ x. R x (use_of_place new)) (waiting slots)
-    → EachPair R (xs ++ waiting slots) → EachPair R (filter test xs ++ waiting (slice_set slots k (Some new)))
-pairs-delay R test new xs slots k first before after pairs =
-    let old = waiting slots in
-    let later = waiting (slice_set slots k (Some new)) in
-    pairs-append R (filter test xs) later
-    (pairs-filter R test xs (pairs-first R xs old pairs))
-    (pairs-slot R new slots k before after (pairs-second R xs old pairs))
-    (all-both (λ x. AllByRecursion (R x) old) (λ x. R x (use_of_place new)) (λ x. AllByRecursion (R x) later) (filter test xs) (λ x all one. all-slot (R x) new slots k one all)
-    (all-filter (λ x. AllByRecursion (R x) old) test xs (pairs-across R xs old pairs)) first)
-
-sound-delay : (rules : Rules) (held : List ℕ) (new : Place) (xs : List Use) (slots : List (Option Place)) (k : ℕ) → IsPlaced rules held (use_of_place new)
-    → AllByRecursion (Differ (use_of_place new)) (waiting slots) → AllByRecursion (Alike (use_of_place new)) (xs ++ waiting slots)
-    → AreSound rules held (xs ++ waiting slots) → AreSound rules held (filter (begins_elsewhere new.address) xs ++ waiting (slice_set slots k (Some new)))
-sound-delay rules held new xs slots k here differ alike sound =
-    let one = use_of_place new in
-    let test = begins_elsewhere new.address in
-    let old = waiting slots in
-    let back : AllByRecursion (λ x. Alike x one) (xs ++ old) = all-weaker (Alike one) (λ x. Alike x one) (xs ++ old) (λ x both e. sym (both (sym e))) alike in
-    let P : Use → Type 0 = IsPlaced rules held in
-    record {
-      placed = all-append P (filter test xs) (waiting (slice_set slots k (Some new)))
-          (all-filter P test xs (all-first P xs old sound.placed))
-          (all-slot P new slots k here (all-second P xs old sound.placed));
-      differ = pairs-delay Differ test new xs slots k
-          (all-weaker (λ x. test x ≡ true) (λ x. Differ x one) (filter test xs) (λ x passes. eqb-false (first_of x) new.address (not-true (begins_at new.address x) passes)) (passes-filter test xs))
-          differ
-          (all-weaker (Differ one) (λ x. Differ x one) old (λ x ne e. ne (sym e)) differ)
-          sound.differ;
-      alike = pairs-delay Alike test new xs slots k
-          (all-filter (λ x. Alike x one) test xs (all-first (λ x. Alike x one) xs old back))
-          (all-second (Alike one) xs old alike)
-          (all-second (λ x. Alike x one) xs old back)
-          sound.alike;
-    }
+-- ---- a block that leaves
 
 -- what gives the page its kind
 record HasKind (found : Option Use) (kind : Kind) : Type 0 where
@@ -197,105 +133,233 @@ has-kind : (found : Option Use) (kind : Kind) → option_map (λ (one : Use). on
 has-kind None kind e = cc
 has-kind (Some one) kind e = record { one = one; is = refl; same = cc }
 
-same_class : (a b : ℕ) → Chunk a ≡ Chunk b → a ≡ b
-same_class a b same = cc
+-- all that touches the page is alike with its kind
+pub alike-on_page : (rules : Rules) (state : State) (page : ℕ) (kind : Kind) → IsSound rules state → page_kind (uses rules state) page ≡ Some kind → AllByRecursion (λ one. touches page one ≡ true → AreAlike kind one.kind) (uses rules state)
+alike-on_page rules state page kind is found =
+    let used = uses rules state in
+    let sound = is.sound in
+    let has = has-kind (find (touches page) used) kind found in
+    let touched = find-passes (touches page) used has.one has.is in
+    let pairs = pairs-all AgreeOnPages used (λ a p one two. alike-self a.kind) (λ a b both p one two. alike-swap a.kind b.kind (both p two one))
+    (pairs-weaker GoTogether AgreeOnPages used (λ a b both. both.alike) sound.together) in
+    let Like : Kind → Use → Type 0 = λ k one. AreAlike k one.kind in
+    all-weaker (AgreeOnPages has.one) (λ one. touches page one ≡ true → AreAlike kind one.kind) used
+    (λ one agrees here. subst (λ k. Like k one) has.same (agrees page touched here))
+    (all-find (λ one. AllByRecursion (AgreeOnPages one) used) (touches page) used has.one pairs has.is)
 
-module _ (rules : Rules) (state : State) (address : ℕ) (is : IsSound rules state) where
+module _ (rules : Rules) (state : State) (is : IsSound rules state) where
   abbrev live_uses : List Use
   live_uses = flat_map (uses_of_block rules) state.live
 
-  -- what touches the page of an address
-  record OnPage (kind : Kind) : Type 0 where
-    one : Use
-    placed : IsPlaced rules state.held one
-    on : page_at (first_of one) ≡ page_at address
-    kind_is : one.kind ≡ kind
-    alike : AllByRecursion (Alike one) (uses rules state)
+  abbrev old : List Use
+  old = waiting state.slots
 
-  on-page : (kind : Kind) → page_kind (uses rules state) (page_at address) ≡ Some kind → OnPage kind
-  on-page kind found =
-      let used = uses rules state in
-      let page = page_at address in
-      let sound = is.sound in
-      let has = has-kind (find (touches page) used) kind found in
-      let placed = all-find (IsPlaced rules state.held) (touches page) used has.one sound.placed has.is in
-      record {
-        one = has.one;
-        placed = placed;
-        on = eqb-true (page_at (first_of has.one)) page (sym (touches-placed rules state.held has.one placed page) ∙ find-passes (touches page) used has.one has.is);
-        kind_is = has.same;
-        alike = all-find (λ y. AllByRecursion (Alike y) used) (touches page) used has.one (pairs-all Alike used (λ a e. refl) (λ a b both e. sym (both (sym e))) sound.alike) has.is;
-      }
+  module _ (address : ℕ) (block : Block) (live : block_at state address ≡ Some block) where
+    abbrev begins_here : Block → Bool
+    begins_here other = other.address == address
 
-  delay-sound : (class : ℕ) (block : Block) → page_kind (uses rules state) (page_at address) ≡ Some (Chunk class) → block_at state address ≡ Some block
-      → IsSound rules ((delay rules state (record { address = address; class = class })).next)
-  unfolding delay
-  delay-sound class block found live =
-      let on = on-page (Chunk class) found in
-      let place : Place = record { address = address; class = class } in
-      let new = use_of_place place in
-      let old = waiting state.slots in
-      let slot = drawn_slot rules state in
-      let sound = is.sound in
-      let alike : AllByRecursion (Alike new) (uses rules state) =
-      all-weaker (Alike on.one) (Alike new) (uses rules state) (λ other both same. sym on.kind_is ∙ both (on.on ∙ same)) on.alike in
-      let Keeps : Use → Type 0 = λ one. IsPlaced rules state.held one × AllByRecursion (Differ one) old × Alike new one in
-      let keep : AllByRecursion Keeps live_uses =
-      all-both (λ one. IsPlaced rules state.held one × Alike new one) (λ one. AllByRecursion (Differ one) old) Keeps live_uses (λ one both apart. (both.0, apart, both.1))
-      (all-both (IsPlaced rules state.held) (Alike new) (λ one. IsPlaced rules state.held one × Alike new one) live_uses (λ one first second. (first, second))
-      (all-first (IsPlaced rules state.held) live_uses old sound.placed) (all-first (Alike new) live_uses old alike))
-      (pairs-across Differ live_uses old sound.differ) in
-      let test : Block → Bool = λ b. b.address == address in
-      let has = has-class (size_class rules block.size) (all-find (λ b. IsSome (size_class rules b.size)) test state.live block is.chunks live) in
-      let kept = subst (AllByRecursion Keeps) (ap (uses_by_class rules block) has.is) (all-find (λ b. AllByRecursion Keeps (uses_of_block rules b)) test state.live block (all-flat Keeps rules state.live keep) live) in
-      let here : block.address ≡ address = eqb-true block.address address (find-passes test state.live block live) in
-      let one = kept.0 in
-      let same : class ≡ has.class = same_class class has.class (one.2 (ap page_at (sym here))) in
-      let is_new : use_of_place (record { address = block.address; class = has.class }) ≡ new =
-      ap (λ a. use_of_place (record { address = a; class = has.class })) here ∙ ap (λ c. use_of_place (record { address = address; class = c })) (sym same) in
-      let Sound : List Use → Type 0 = λ xs. AreSound rules state.held (xs ++ waiting (slice_set state.slots slot (Some place))) in
-      evicted-sound rules (put_off rules (drawn_more 1 state) slot place) (slot_of state slot) (freed-sound rules (into_slot (drawn_more 1 state) slot place) (record {
-        slots = length-set state.slots slot (Some place) ∙ is.slots;
-        chunks = all-filter (λ b. IsSome (size_class rules b.size)) (is_elsewhere address) state.live is.chunks;
-        ascends = is.ascends;
-        arena = is.arena;
-        pages = is.pages;
-        bytes = is.bytes;
-        sound = subst Sound (sym (flat-elsewhere rules address state.live is.chunks))
-            (sound-delay rules state.held place live_uses state.slots slot (subst (IsPlaced rules state.held) is_new one.0) (subst (λ u. AllByRecursion (Differ u) old) is_new one.1) alike is.sound);
-      }) place)
+    abbrev left : List Use
+    left = flat_map (uses_of_block rules) ((without_block state address).live)
 
-  again-sound : IsSound rules ((freed_again rules state address).next)
-  unfolding freed_again
-  again-sound = drawn_more-sound rules 1 state is
+    block-here : block.address ≡ address
+    block-here = eqb-true block.address address (find-passes begins_here state.live block live)
 
-  place-sound : (class : ℕ) (live : Option Block) (put : Option Place) → page_kind (uses rules state) (page_at address) ≡ Some (Chunk class) → block_at state address ≡ live
-      → IsSound rules ((free_at rules state address (at_place class address live put)).next)
-  place-sound class live (Some place) found live_is = again-sound
-  place-sound class (Some block) None found live_is = delay-sound class block found live_is
-  place-sound class None None found live_is = is
+    -- what is so of all that is in use is so of what the block has
+    pub of-block : (P : Use → Type 0) → AllByRecursion P live_uses → AllByRecursion P (uses_of_block rules block)
+    of-block P all = all-find (λ other. AllByRecursion P (uses_of_block rules other)) begins_here state.live block (all-flat (uses_of_block rules) P state.live all) live
 
-  start-sound : (class : ℕ) (starts : Bool) → page_kind (uses rules state) (page_at address) ≡ Some (Chunk class)
-      → IsSound rules ((free_at rules state address (if starts then at_place class address (block_at state address) (delayed_at state address) else Unaligned)).next)
-  start-sound class true found = place-sound class (block_at state address) (delayed_at state address) found refl
-  start-sound class false found = is
+    pub of-left : (P : Use → Type 0) → AllByRecursion P live_uses → AllByRecursion P left
+    of-left P = all-flat_filter (uses_of_block rules) P (λ other. not (begins_here other)) state.live
 
-  -- so far every page in use is a chunk page
-  no_pages : (kind : Kind) → ((class : ℕ) → kind ≡ Chunk class → ⊥) → page_kind (uses rules state) (page_at address) ≡ Some kind → ⊥
-  no_pages kind other found =
-      let on = on-page kind found in
-      let placed = on.placed in
-      other placed.class (sym on.kind_is ∙ placed-kind rules state.held on.one placed)
+    left-together : Across GoTogether (uses_of_block rules block) left
+    left-together = let sound = is.sound in across-left (uses_of_block rules) GoTogether begins_here state.live block together-swap live (pairs-first GoTogether live_uses old sound.together)
 
-  kind-sound : (kind : Option Kind) → page_kind (uses rules state) (page_at address) ≡ kind → IsSound rules ((free_at rules state address (on_page state address kind)).next)
-  kind-sound None found = is
-  kind-sound (Some Pages) found = absurd (no_pages Pages (λ class e. cc) found)
-  kind-sound (Some Guard) found = is
-  kind-sound (Some (Chunk class)) found = start-sound class (starts_place class address) found
+    old-together : Across GoTogether (uses_of_block rules block) old
+    old-together = let sound = is.sound in of-block (λ one. AllByRecursion (GoTogether one) old) (pairs-across GoTogether live_uses old sound.together)
 
-  held-sound : (held : Bool) → IsSound rules ((free_at rules state address (if held then on_page state address (page_kind (uses rules state) (page_at address)) else NotHeld)).next)
-  held-sound true = kind-sound (page_kind (uses rules state) (page_at address)) refl
-  held-sound false = is
+    pairs-left : EachPair GoTogether left
+    pairs-left = let sound = is.sound in pairs-flat_filter (uses_of_block rules) GoTogether (λ other. not (begins_here other)) state.live (pairs-first GoTogether live_uses old sound.together)
 
-  pub free-sound : IsSound rules ((free rules state address).next)
-  free-sound = held-sound (holds rules state address)
+    across-old : Across GoTogether left old
+    across-old = let sound = is.sound in of-left (λ one. AllByRecursion (GoTogether one) old) (pairs-across GoTogether live_uses old sound.together)
+
+    placed-left : AllByRecursion (IsPlaced rules state.held) left
+    placed-left = let sound = is.sound in of-left (IsPlaced rules state.held) (all-first (IsPlaced rules state.held) live_uses old sound.placed)
+
+    -- each thing that the block has, of what is alike with the kind of the page on which it begins
+    alike-block : (kind : Kind) → page_kind (uses rules state) (page_at address) ≡ Some kind → AllByRecursion (λ one. touches (page_at address) one ≡ true → AreAlike kind one.kind) (uses_of_block rules block)
+    alike-block kind found =
+        let P : Use → Type 0 = λ one. touches (page_at address) one ≡ true → AreAlike kind one.kind in
+        of-block P (all-first P live_uses old (alike-on_page rules state (page_at address) kind is found))
+
+    block-placed : AllByRecursion (IsPlaced rules state.held) (uses_of_block rules block)
+    block-placed = let sound = is.sound in of-block (IsPlaced rules state.held) (all-first (IsPlaced rules state.held) live_uses old sound.placed)
+
+    -- it touches the page of the address where it begins
+    begins-on : (one : Use) → IsPlaced rules state.held one → (one.extent).first ≡ block.address → touches (page_at address) one ≡ true
+    begins-on one on first = let P : ℕ → Type 0 = λ page. touches page one ≡ true in subst P (ap page_at (first ∙ block-here)) (touches-first one on.shape)
+
+    without-sound : IsSound rules (without_block state address)
+    without-sound =
+        let sound = is.sound in
+        record {
+          slots = is.slots;
+          zoned = all-filter (FitsZone rules) (λ other. not (begins_here other)) state.live is.zoned;
+          ascends = is.ascends;
+          arena = is.arena;
+          pages = is.pages;
+          bytes = is.bytes;
+          sound = record {
+            placed = all-append (IsPlaced rules state.held) left old placed-left (all-second (IsPlaced rules state.held) live_uses old sound.placed);
+            together = pairs-append GoTogether left old pairs-left (pairs-second GoTogether live_uses old sound.together) across-old;
+          };
+        }
+
+    -- ---- a live place is put off
+
+    module _ (one : Use) (one_is : uses_of_block rules block ≡ one ∷ []) (place : Place) (same : one ≡ use_of_place place) (slot : ℕ) where
+      abbrev later : List Use
+      later = waiting (slice_set state.slots slot (Some place))
+
+      slot-sound : AreSound rules state.held (left ++ later)
+      slot-sound =
+          let sound = is.sound in
+          let new = use_of_place place in
+          let P : Use → Type 0 = IsPlaced rules state.held in
+          let R : Use → Use → Type 0 = GoTogether in
+          let uses_is : uses_of_block rules block ≡ new ∷ [] = one_is ∙ ap (λ u. u ∷ []) same in
+          let here : P new = (subst (AllByRecursion P) uses_is block-placed).0 in
+          let to_left : AllByRecursion (R new) left = (subst (λ us. Across R us left) uses_is left-together).0 in
+          let to_old : AllByRecursion (R new) old = (subst (λ us. Across R us old) uses_is old-together).0 in
+          let back : (xs : List Use) → AllByRecursion (R new) xs → AllByRecursion (λ x. R x new) xs = λ xs. all-weaker (R new) (λ x. R x new) xs (λ x. together-swap new x) in
+          record {
+            placed = all-append P left later placed-left (all-slot P place state.slots slot here (all-second P live_uses old sound.placed));
+            together = pairs-append R left later pairs-left
+                (pairs-slot R place state.slots slot to_old (back old to_old) (pairs-second R live_uses old sound.together))
+                (all-both (λ x. AllByRecursion (R x) old) (λ x. R x new) (λ x. AllByRecursion (R x) later) left (λ x all first. all-slot (R x) place state.slots slot first all) across-old (back left to_left));
+          }
+
+    delay-by : (class slot : ℕ) (own : Option ℕ) → size_class rules block.size ≡ own → page_kind (uses rules state) (page_at address) ≡ Some (Chunk class)
+        → AreSound rules state.held (left ++ waiting (slice_set state.slots slot (Some (record { address = address; class = class }))))
+    delay-by class slot None none found =
+        let uses_is = pages-uses rules block.size none block.address block.site in
+        let placed = subst (AllByRecursion (IsPlaced rules state.held)) uses_is block-placed in
+        let alike = subst (AllByRecursion (λ one. touches (page_at address) one ≡ true → AreAlike (Chunk class) one.kind)) uses_is (alike-block (Chunk class) found) in
+        absurd (alike.0 (begins-on _ placed.0 refl))
+    delay-by class slot (Some other) is_class found =
+        let uses_is = ap (uses_by_class rules block) is_class in
+        let place : Place = record { address = block.address; class = other } in
+        let placed = subst (AllByRecursion (IsPlaced rules state.held)) uses_is block-placed in
+        let alike = subst (AllByRecursion (λ one. touches (page_at address) one ≡ true → AreAlike (Chunk class) one.kind)) uses_is (alike-block (Chunk class) found) in
+        let same : class ≡ other = alike.0 (begins-on (use_of_place place) placed.0 refl) in
+        slot-sound (use_of_place place) uses_is (record { address = address; class = class })
+        (ap (λ a. use_of_place (record { address = a; class = other })) block-here ∙ ap (λ c. use_of_place (record { address = address; class = c })) (sym same)) slot
+
+    -- the place enters a slot
+    pub into_slot-sound : (class slot : ℕ) → page_kind (uses rules state) (page_at address) ≡ Some (Chunk class) → IsSound rules (into_slot state slot (record { address = address; class = class }))
+    into_slot-sound class slot found = record {
+      slots = length-set state.slots slot (Some (record { address = address; class = class })) ∙ is.slots;
+      zoned = all-filter (FitsZone rules) (λ other. not (begins_here other)) state.live is.zoned;
+      ascends = is.ascends;
+      arena = is.arena;
+      pages = is.pages;
+      bytes = is.bytes;
+      sound = delay-by class slot (size_class rules block.size) refl found;
+    }
+
+    delay-sound : (class : ℕ) → page_kind (uses rules state) (page_at address) ≡ Some (Chunk class) → IsSound rules ((delay rules state (record { address = address; class = class })).next)
+    unfolding delay
+    delay-sound class found =
+        let place : Place = record { address = address; class = class } in
+        let slot = drawn_slot rules state in
+        evicted-sound rules (put_off rules (drawn_more 1 state) slot place) (slot_of state slot)
+        (freed-sound rules (into_slot (drawn_more 1 state) slot place) (drawn_more-sound rules 1 (into_slot state slot place) (into_slot-sound class slot found)) place)
+
+    -- ---- a page block becomes free
+
+    abbrev run : Run
+    run = record { first = page_at address; count = block_pages rules block.size }
+
+    -- what is apart from a page block's data and from its guard touches none of its pages
+    block-untouched : (guards : Bool) → rules.options.guard ≡ guards → (used : List Use) → address ≡ address_of (page_at address)
+        → Across GoTogether (record { extent = data_of block; kind = Pages } ∷ (if guards then record { extent = guard_of block; kind = Guard } ∷ [] else [])) used → IsFreeRun used run
+    block-untouched guards is_guard used at together page within =
+        let parts = and_parts (nat_le run.first page) (nat_lt page (run.first + run.count)) within in
+        let low = leb-true run.first page parts.0 in
+        let high = ltb-true page (run.first + run.count) parts.1 in
+        let data_use : Use = record { extent = data_of block; kind = Pages } in
+        let here = block-here in
+        ⊎_elim
+        (λ below. all-weaker (GoTogether data_use) (λ one. touches page one ≡ false) used
+        (λ one both. page-untouched data_use one page (omega arith) (omega arith) both.apart) together.0)
+        (λ past. behind guards is_guard together.1 past high)
+        (cases_lt page (run.first + data_pages block.size))
+      where
+        behind : (some : Bool) → rules.options.guard ≡ some → Across GoTogether (if some then record { extent = guard_of block; kind = Guard } ∷ [] else []) used
+            → page_at address + data_pages block.size ≤ page → page < page_at address + block_pages rules block.size → AllByRecursion (λ one. touches page one ≡ false) used
+        behind false is_some others past high = let count : guard_pages rules ≡ 0 = ap guard_count is_some in absurd (omega arith)
+        behind true is_some others past high =
+            let count : guard_pages rules ≡ 1 = ap guard_count is_some in
+            let guard_use : Use = record { extent = guard_of block; kind = Guard } in
+            let here = block-here in
+            all-weaker (GoTogether guard_use) (λ one. touches page one ≡ false) used
+            (λ one both. page-untouched guard_use one page (omega arith) (omega arith) both.apart) others.0
+
+    pub pages-by : (own : Option ℕ) → size_class rules block.size ≡ own → page_kind (uses rules state) (page_at address) ≡ Some Pages → IsFreeRun (uses rules (without_block state address)) run
+    pages-by (Some class) is_class found =
+        let uses_is = ap (uses_by_class rules block) is_class in
+        let placed = subst (AllByRecursion (IsPlaced rules state.held)) uses_is block-placed in
+        let alike = subst (AllByRecursion (λ one. touches (page_at address) one ≡ true → AreAlike Pages one.kind)) uses_is (alike-block Pages found) in
+        absurd (alike.0 (begins-on _ placed.0 refl))
+    pages-by None none found =
+        let uses_is = pages-uses rules block.size none block.address block.site in
+        let placed = (subst (AllByRecursion (IsPlaced rules state.held)) uses_is block-placed).0 in
+        let at : block.address ≡ address_of (page_at block.address) = shape-begins (record { extent = data_of block; kind = Pages }) placed.shape in
+        let At : ℕ → Type 0 = λ a. a ≡ address_of (page_at a) in
+        let together : Across GoTogether (uses_of_block rules block) (left ++ old) =
+        all-both (λ one. AllByRecursion (GoTogether one) left) (λ one. AllByRecursion (GoTogether one) old) (λ one. AllByRecursion (GoTogether one) (left ++ old)) (uses_of_block rules block)
+        (λ one. all-append (GoTogether one) left old) left-together old-together in
+        block-untouched rules.options.guard refl (left ++ old) (subst At block-here at) (subst (λ us. Across GoTogether us (left ++ old)) uses_is together)
+
+    pages-sound : page_kind (uses rules state) (page_at address) ≡ Some Pages → IsSound rules ((free_at rules state address (PageBlock block)).next)
+    unfolding with_freed_pages
+    pages-sound found =
+        let Sound : ℕ → Type 0 = λ a. IsSound rules ((kept_or_let_go rules (with_freed_pages rules block (without_block state a)) (record { first = page_at a; count = block_pages rules block.size })).next) in
+        subst Sound (sym block-here)
+        (kept_or_let_go-sound rules (with_freed_pages rules block (without_block state address)) run (pages-by (size_class rules block.size) refl found)
+        (freed_pages-sound rules (without_block state address) without-sound block))
+
+  -- ---- by what stands at the address
+
+  module _ (address : ℕ) where
+    again-sound : IsSound rules ((freed_again rules state address).next)
+    unfolding freed_again
+    again-sound = drawn_more-sound rules 1 state is
+
+    place-sound : (class : ℕ) (live : Option Block) (put : Option Place) → page_kind (uses rules state) (page_at address) ≡ Some (Chunk class) → block_at state address ≡ live
+        → IsSound rules ((free_at rules state address (at_place class address live put)).next)
+    place-sound class live (Some place) found live_is = again-sound
+    place-sound class (Some block) None found live_is = delay-sound address block live_is class found
+    place-sound class None None found live_is = is
+
+    start-sound : (class : ℕ) (starts : Bool) → page_kind (uses rules state) (page_at address) ≡ Some (Chunk class)
+        → IsSound rules ((free_at rules state address (if starts then at_place class address (block_at state address) (delayed_at state address) else Unaligned)).next)
+    start-sound class true found = place-sound class (block_at state address) (delayed_at state address) found refl
+    start-sound class false found = is
+
+    in-pages-sound : (live : Option Block) → block_at state address ≡ live → page_kind (uses rules state) (page_at address) ≡ Some Pages → IsSound rules ((free_at rules state address (in_pages live)).next)
+    in-pages-sound None live_is found = is
+    in-pages-sound (Some block) live_is found = pages-sound address block live_is found
+
+    kind-sound : (kind : Option Kind) → page_kind (uses rules state) (page_at address) ≡ kind → IsSound rules ((free_at rules state address (on_page state address kind)).next)
+    kind-sound None found = is
+    kind-sound (Some Pages) found = in-pages-sound (block_at state address) refl found
+    kind-sound (Some Guard) found = is
+    kind-sound (Some (Chunk class)) found = start-sound class (starts_place class address) found
+
+    held-sound : (held : Bool) → IsSound rules ((free_at rules state address (if held then on_page state address (page_kind (uses rules state) (page_at address)) else NotHeld)).next)
+    held-sound true = kind-sound (page_kind (uses rules state) (page_at address)) refl
+    held-sound false = is
+
+    pub free-sound : IsSound rules ((free rules state address).next)
+    free-sound = held-sound (holds rules state address)

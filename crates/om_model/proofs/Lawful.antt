@@ -1,7 +1,6 @@
 -- At each place of a lawful journal the state is sound, and so well formed.
 use Rattle.std.proofs.Common.{◌≡◌, ℕ, Bool, true, false, if◌then◌else◌, List, [], ◌∷◌, ◌++◌, Option, Some, None, refl, subst, append-nil, sym}
-use Rattle.std.specs.Option.{is_some}
-use Rattle.om_model.specs.Pool.Rules.{Rules, size_class}
+use Rattle.om_model.specs.Pool.Rules.{Rules}
 use Rattle.om_model.specs.Pool.State.{State, opening}
 use Rattle.om_model.specs.Pool.Steps.{Nothing, Answers}
 use Rattle.om_model.specs.Pool.Malloc.{malloc_wish, malloc}
@@ -18,35 +17,24 @@ use Rattle.om_model.proofs.Bytes.{opening-pages, opening-bytes, written-sound}
 use Rattle.om_model.proofs.Malloc.{malloc-sound}
 use Rattle.om_model.proofs.Free.{free-sound}
 
--- an allocation that is answered has a class
-record HasClass (found : Option ℕ) : Type 0 where
-  class : ℕ
-  is : found ≡ Some class
-
-has-class : (found : Option ℕ) → is_some found ≡ true → HasClass found
-has-class None some = cc
-has-class (Some class) some = record { class = class; is = refl }
-
 served-sound : (rules : Rules) (state : State) (size site : ℕ) (answers : Answers) (served : Bool) → is_served rules size ≡ served
     → MayAnswer rules state (if served then malloc_wish rules state size else Nothing) answers → IsSound rules state
     → IsSound rules (next_of state (if served then Some (malloc rules state size site answers.claim) else None))
-served-sound rules state size site answers true served may is =
-    let has = has-class (size_class rules size) served in
-    malloc-sound rules size has.class has.is state site answers may is
+served-sound rules state size site answers true served may is = malloc-sound rules size state site answers may is
 served-sound rules state size site answers false served may is = is
 
 load-sound : (rules : Rules) (state : State) (address : ℕ) (bar : Option Reply) → IsSound rules state → IsSound rules ((load_unless state address bar).next)
 load-sound rules state address (Some reply) is = is
 load-sound rules state address None is = is
 
-store-sound : (rules : Rules) (state : State) (address byte : ℕ) (bar : Option Reply) → IsSound rules state → IsSound rules ((store_unless state address byte bar).next)
+pub store-sound : (rules : Rules) (state : State) (address byte : ℕ) (bar : Option Reply) → IsSound rules state → IsSound rules ((store_unless state address byte bar).next)
 store-sound rules state address byte (Some reply) is = is
 store-sound rules state address byte None is = written-sound rules state is address byte
 
 -- operations that have no step leave the state as it is
 op-sound : (rules : Rules) (state : State) (op : Op) (answers : Answers) → MayAnswer rules state (wish_of rules state op) answers → IsSound rules state → IsSound rules (next_of state (step_of rules state op answers))
 op-sound rules state (Malloc size site) answers may is = served-sound rules state size site answers (is_served rules size) refl may is
-op-sound rules state (Free address) answers may is = free-sound rules state address is
+op-sound rules state (Free address) answers may is = free-sound rules state is address
 op-sound rules state (Calloc count size site) answers may is = is
 op-sound rules state (Realloc address size site) answers may is = is
 op-sound rules state (Reallocarray address count size site) answers may is = is
@@ -64,12 +52,12 @@ from-sound rules state (entry ∷ before) rest lawful is = from-sound rules (aft
 opening-sound : (rules : Rules) → IsSound rules (opening rules)
 opening-sound rules = record {
   slots = refl;
-  chunks = tt;
+  zoned = tt;
   ascends = tt;
   arena = tt;
   pages = opening-pages rules;
   bytes = opening-bytes rules;
-  sound = record { placed = tt; differ = tt; alike = tt };
+  sound = record { placed = tt; together = tt };
 }
 
 before-sound : (rules : Rules) (before rest : List Entry) → IsLawful rules (before ++ rest) → IsSound rules (state_of rules before)

@@ -1,14 +1,17 @@
 pub mod Bytes
 pub mod Denied
 pub mod Each
+pub mod Flat
 pub mod Free
 pub mod Held
 pub mod HexDigits
 pub mod Journals
+pub mod Kept
 pub mod Lawful
 pub mod Lists
 pub mod Malloc
 pub mod OrderedMoves
+pub mod PageKinds
 pub mod Places
 pub mod PlainCalls
 pub mod PlainExtents
@@ -16,6 +19,7 @@ pub mod PlainJournals
 pub mod PlainMemory
 pub mod PlainText
 pub mod PlainValues
+pub mod Served
 pub mod Sound
 pub mod Steps
 pub mod Titles

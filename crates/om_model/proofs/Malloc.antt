@@ -1,41 +1,66 @@
--- Allocation keeps states sound: the picked place is one that nothing in use has, on a page of its class.
-use Rattle.std.proofs.Common.{◌≡◌, ℕ, ◌+◌, ◌*◌, ◌/◌, ◌<◌, true, false, ◌&&◌, if◌then◌else◌, nat_lt, List, [], ◌∷◌, ◌++◌, length, map, Option, Some, None, IsSome, unwrap_or, refl, sym, ap, ◌∙◌, subst, arith}
+-- Allocation keeps states sound: the picked place of a chunk is one that nothing in use has, on a page of its class,
+-- and a page block has a run of pages that nothing in use touches.
+use Rattle.std.proofs.Common.{◌≡◌, ℕ, ◌+◌, ◌*◌, ◌/◌, ◌<◌, ◌≤◌, inr, Bool, true, false, ◌&&◌, if◌then◌else◌, nat_lt, List, [], ◌∷◌, ◌++◌, append-nil, length, map, Option, Some, None, unwrap_or, refl, sym, ap, ◌∙◌, subst, arith}
 use Rattle.std.specs.List.{flat_map, AllByRecursion}
 use Rattle.std.specs.Option.{is_none}
-use Rattle.std.proofs.lemmas.Bool.{true≢false}
+use Rattle.std.proofs.lemmas.Bool.{true≢false, cases_Bool, cases_eq}
 use Rattle.std.proofs.lemmas.List.Concat.{flat_map-append}
 use Rattle.std.proofs.lemmas.Nat.{mod_below}
-use Rattle.om_geom.specs.Addresses.{page_at}
-use Rattle.om_geom.specs.ClassLaws.{class_of-is_class}
+use mathlib.Core.Logic.{⊎_elim}
+use Rattle.om_geom.specs.Addresses.{address_of, bit_of, page_at}
+use Rattle.om_geom.specs.AddressLaws.{apart-before, bit_of-below}
+use Rattle.om_geom.specs.Classes.{data_pages}
+use Rattle.om_geom.specs.ClassLaws.{class_of-is_class, data_pages-hold}
 use Rattle.om_geom.specs.Numbers.{zone_pages}
 use Rattle.om_model.specs.Pool.Rules.{Rules, word_at, size_class, block_pages}
-use Rattle.om_model.specs.Pool.Runs.{run_of}
+use Rattle.om_model.specs.Pool.Runs.{Run, run_of}
 use Rattle.om_model.specs.Pool.State.{State, delayed, drawn_more, is_held, with_run, with_pages}
-use Rattle.om_model.specs.Pool.InUse.{Use, use_of_place, uses_by_class, uses_of_block, uses}
+use Rattle.om_model.specs.Pool.InUse.{Pages, Guard, Use, use_of_place, data_of, guard_of, uses_of_pages, uses_by_class, uses_of_block, uses, touches}
 use Rattle.om_model.specs.Pool.Picks.{own_page, picked_place, place_address}
-use Rattle.om_model.specs.Pool.Steps.{Wish, Nothing, Answers, Step, unchanged, null_or_fault}
-use Rattle.om_model.specs.Pool.Malloc.{pages_by_class, words_by_class, words_for, is_too_large, page_by_class, page_for, search_unless, placing_wish, with_block, address_on, placed_on, placed_by_claim, placed_where, placing, malloc_wish, block_placed, malloc}
+use Rattle.om_model.specs.Pool.Steps.{Nothing, Answers, unchanged, null_or_fault}
+use Rattle.om_model.specs.Pool.Malloc.{pages_by_class, pages_for, words_by_class, words_for, is_too_large, page_by_class, page_for, search_unless, placing_wish, with_block, address_on, placed_on, placed_by_claim, placed_where, placing, malloc_wish, block_placed, malloc}
 use Rattle.om_model.specs.Pool.Journal.{IsFound, EndsSearch, MayAnswer}
+use Rattle.om_model.specs.Pool.WellFormed.{EachPair, FitsZone}
 use Rattle.om_model.specs.declared.block.Block.{Block}
 use Rattle.om_model.specs.declared.entry.Move.{Move}
 use Rattle.om_model.specs.declared.reply.Why.TheVariants.{TooLarge}
-use Rattle.om_model.proofs.Each.{all-weaker, all-append, all-insert, pairs-insert}
+use Rattle.om_model.proofs.Each.{Across, all-weaker, all-each, all-append, all-between, pairs-between}
 use Rattle.om_model.proofs.Held.{held-in_run, held-still, all-with_run, ascends-with_run}
 use Rattle.om_model.proofs.Bytes.{come-pages, come-bytes, fresh-sound}
-use Rattle.om_model.proofs.Sound.{IsPlaced, Differ, Alike, AreSound, IsSound, first_of, place_of, placed-page}
-use Rattle.om_model.proofs.Places.{IsUntouched, Serves, serves-untouched, serves-own, picked, picked-placed, picked-differs, picked-alike}
+use Rattle.om_model.proofs.Sound.{IsPlaced, IsWhole, GoTogether, AreSound, IsSound, place_of, whole-touched, apart-pages, together-swap}
+use Rattle.om_model.proofs.Places.{IsUntouched, HasRun, Serves, not-touched, serves-run, serves-own, run-own, picked, picked-placed, picked-together}
 
--- one more in use, where it differs from all and is alike with all
-sound-insert : (rules : Rules) (held : List ℕ) (new : Use) (xs ys : List Use) → IsPlaced rules held new → AllByRecursion (Differ new) (xs ++ ys) → AllByRecursion (Alike new) (xs ++ ys) → AreSound rules held (xs ++ ys) → AreSound rules held ((xs ++ new ∷ []) ++ ys)
-sound-insert rules held new xs ys here differ alike sound = record {
-  placed = all-insert (IsPlaced rules held) new xs ys here sound.placed;
-  differ = pairs-insert Differ new xs ys differ (all-weaker (Differ new) (λ x. Differ x new) (xs ++ ys) (λ x ne e. ne (sym e)) differ) sound.differ;
-  alike = pairs-insert Alike new xs ys alike (all-weaker (Alike new) (λ x. Alike x new) (xs ++ ys) (λ x both e. sym (both (sym e))) alike) sound.alike;
+-- what comes into use with a block: placed, and apart from all that is in use
+record Enters (rules : Rules) (held : List ℕ) (used new : List Use) : Type 0 where
+  placed : AllByRecursion (IsPlaced rules held) new
+  own : EachPair GoTogether new
+  others : Across GoTogether new used
+
+sound-between : (rules : Rules) (held : List ℕ) (new xs ys : List Use) → Enters rules held (xs ++ ys) new → AreSound rules held (xs ++ ys) → AreSound rules held ((xs ++ new) ++ ys)
+sound-between rules held new xs ys enters sound = record {
+  placed = all-between (IsPlaced rules held) new xs ys enters.placed sound.placed;
+  together = pairs-between GoTogether new xs ys together-swap enters.own enters.others sound.together;
 }
+
+block-sound : (rules : Rules) (block : Block) (state : State) → FitsZone rules block → Enters rules state.held (uses rules state) (uses_of_block rules block) → IsSound rules state → IsSound rules (with_block block state)
+block-sound rules block state zone enters is =
+    let live = flat_map (uses_of_block rules) state.live in
+    let waiting = map use_of_place (delayed state.slots) in
+    let Sound : List Use → Type 0 = λ xs. AreSound rules state.held (xs ++ waiting) in
+    record {
+      slots = is.slots;
+      zoned = all-append (FitsZone rules) state.live (block ∷ []) is.zoned (zone, tt);
+      ascends = is.ascends;
+      arena = is.arena;
+      pages = is.pages;
+      bytes = is.bytes;
+      sound = subst Sound (sym (flat_map-append (uses_of_block rules) state.live (block ∷ []) ∙ ap (λ more. live ++ more) (append-nil (uses_of_block rules block))))
+          (sound-between rules state.held (uses_of_block rules block) live waiting enters is.sound);
+    }
 
 -- more words drawn change nothing that is in use
 pub drawn_more-sound : (rules : Rules) (count : ℕ) (state : State) → IsSound rules state → IsSound rules (drawn_more count state)
-drawn_more-sound rules count state is = record { slots = is.slots; chunks = is.chunks; ascends = is.ascends; arena = is.arena; pages = is.pages; bytes = is.bytes; sound = is.sound }
+drawn_more-sound rules count state is = record { slots = is.slots; zoned = is.zoned; ascends = is.ascends; arena = is.arena; pages = is.pages; bytes = is.bytes; sound = is.sound }
 
 module _ (rules : Rules) (size class : ℕ) (class_is : size_class rules size ≡ Some class) where
   -- ---- a block with a class is a chunk
@@ -66,113 +91,216 @@ module _ (rules : Rules) (size class : ℕ) (class_is : size_class rules size �
       ap (λ large. if large then unchanged state (null_or_fault rules TooLarge) else block_placed rules (words_for rules size) (placing rules state size site claim)) chunk-fits
       ∙ ap (λ found. block_placed rules (words_by_class found) (placed_where rules (drawn_more (words_by_class found) state) (page_by_class rules state size found) claim second size site)) class_is
 
-  -- ---- its placing keeps the state sound
-
-  placed-sound : (state : State) (page word site : ℕ) → Serves rules state.held (uses rules state) page class → IsSound rules state → IsSound rules ((placed_on rules state page word size site).next)
-  placed-sound state page word site serves is =
+  chunk-sound : (state : State) (page word site : ℕ) → Serves rules state.held (uses rules state) page class → IsSound rules state → IsSound rules ((placed_on rules state page word size site).next)
+  chunk-sound state page word site serves is =
       let used = uses rules state in
-      let live = flat_map (uses_of_block rules) state.live in
-      let waiting = map use_of_place (delayed state.slots) in
+      let sound = is.sound in
       let is_one = class_of-is_class size rules.options.canary class class_is in
       let index = unwrap_or (picked_place used page class word) 0 in
       let pick = picked used page class word is_one serves.room in
       let address = address_on rules state page word (size_class rules size) in
       let block : Block = record { address = address; size = size; site = site } in
       let new = use_of_place (place_of page class index) in
-      let Sound : List Use → Type 0 = λ xs. AreSound rules state.held (xs ++ waiting) in
-      let Has : Option ℕ → Type 0 = λ found. IsSome found in
       let use_is : uses_of_block rules block ≡ new ∷ [] = chunk-uses address site ∙ ap (λ a. use_of_place (record { address = a; class = class }) ∷ []) (chunk-address state page word) in
-      fresh-sound rules (with_block block state) (record {
-        slots = is.slots;
-        chunks = all-append (λ b. IsSome (size_class rules b.size)) state.live (block ∷ []) is.chunks (subst Has (sym class_is) refl, tt);
-        ascends = is.ascends;
-        arena = is.arena;
-        pages = is.pages;
-        bytes = is.bytes;
-        sound = subst Sound (sym (flat_map-append (uses_of_block rules) state.live (block ∷ []) ∙ ap (λ more. live ++ (more ++ [])) use_is))
-            (sound-insert rules state.held new live waiting
-            (picked-placed rules state.held used page class index is_one serves pick)
-            (picked-differs rules state.held used page class index is_one serves pick)
-            (picked-alike rules state.held used page class index is_one serves pick)
-            is.sound);
-      }) block
+      let one : pages_for rules size ≡ 1 = ap (pages_by_class rules size) class_is in
+      fresh-sound rules (with_block block state) (block-sound rules block state
+      (record { fits = chunk-fits; within = omega (arith, bit_of-below (page_at address)) })
+      (subst (Enters rules state.held used) (sym use_is) (record {
+        placed = (picked-placed rules state.held used page class index is_one serves pick, tt);
+        own = (tt, tt);
+        others = (picked-together rules state.held used page class index is_one serves pick sound.placed, tt);
+      })) is) block
 
-  -- a page that isn't held is touched by nothing
-  untouched-new : (held : List ℕ) (used : List Use) (page : ℕ) → (is_held held page ≡ true → ⊥) → AllByRecursion (IsPlaced rules held) used → IsUntouched used page
-  untouched-new held used page new placed =
-      all-weaker (IsPlaced rules held) (λ one. page_at (first_of one) ≡ page → ⊥) used
-      (λ one on there. new (let P : ℕ → Type 0 = λ n. is_held held n ≡ true in subst P (sym (placed-page rules held one on) ∙ there) on.held_is))
-      placed
+-- ---- whole pages in a run that nothing touches
 
-  -- what is in use stays on held pages where more are held
-  sound-held : (held more : List ℕ) (used : List Use) → ((page : ℕ) → is_held held page ≡ true → is_held more page ≡ true) → AreSound rules held used → AreSound rules more used
-  sound-held held more used wider sound = record {
-    placed = all-weaker (IsPlaced rules held) (IsPlaced rules more) used
-        (λ one on. record { page = on.page; index = on.index; class = on.class; is = on.is; below = on.below; one_is = on.one_is; held_is = wider on.page on.held_is; there = on.there })
-        sound.placed;
-    differ = sound.differ;
-    alike = sound.alike;
+module _ (rules : Rules) (held : List ℕ) (used : List Use) (first count : ℕ) (run : HasRun rules held used first count) (one : Use) (on : IsWhole one) (low : first ≤ on.first) (high : on.first + on.count ≤ first + count) where
+  inside : (page : ℕ) → touches page one ≡ true → (first ≤ page) × (page < first + count)
+  inside page touched = let parts = whole-touched one on page touched in let from = parts.0 in let below = parts.1 in (omega arith, omega arith)
+
+  run-placed : IsPlaced rules held one
+  run-placed = record {
+    shape = inr on;
+    held_is = λ page touched. let parts = inside page touched in run.held_is page parts.0 parts.1;
+    there = λ page touched. let parts = inside page touched in let below = parts.1 in let there = run.there in omega arith;
   }
 
-  claimed-sound : (state : State) (move : Move) (word site : ℕ) → (run_of move).count ≡ 1 → (run_of move).first < zone_pages * rules.zones → (is_held state.held (run_of move).first ≡ true → ⊥)
-      → IsSound rules state → IsSound rules ((placed_by_claim rules state (Some move) word size site).next)
-  claimed-sound state move word site one there new is =
-      let run = run_of move in
-      let used = uses rules state in
-      let more = with_run run state.held in
-      let sound = is.sound in
-      let wide : IsSound rules (with_pages run state) = record {
-        slots = is.slots;
-        chunks = is.chunks;
-        ascends = ascends-with_run run state.held is.ascends;
-        arena = all-with_run run state.held (λ p. p < zone_pages * rules.zones) (λ page low. omega arith) is.arena;
-        pages = come-pages state run one ∙ is.pages;
-        bytes = come-bytes state run one is.bytes (omega (arith, is.pages));
-        sound = sound-held state.held more used (λ other on. held-still run state.held other on) is.sound;
-      } in
-      let wider = wide.sound in
-      let untouched = untouched-new state.held used run.first new sound.placed in
-      let serves = serves-untouched rules more used wider.placed run.first class (class_of-is_class size rules.options.canary class class_is)
-      (held-in_run run state.held run.first (omega arith) (omega arith)) there untouched in
-      placed-sound (with_pages run state) run.first word site serves wide
+  run-together : AllByRecursion (GoTogether one) used
+  run-together =
+      all-weaker (λ x. (page : ℕ) → touches page one ≡ true → touches page x ≡ false) (GoTogether one) used
+      (λ x none. apart-pages one x (inr on) (λ page first second. not-touched page x (none page first) second))
+      (all-each (λ page. touches page one ≡ true) (λ page x. touches page x ≡ false) used (λ page touched. let parts = inside page touched in run.untouched page parts.0 parts.1))
 
-  found-new : (state : State) (word passed : ℕ) (move : Move) → IsFound rules state 1 word passed move → is_held state.held (run_of move).first ≡ true → ⊥
-  found-new state word passed move found there =
-      let one = found.count_is in
-      let fresh = found.fresh in
-      true≢false (sym there ∙ fresh.new (run_of move).first (omega arith) (omega arith))
+-- the guard pages, by whether there are any
+abbrev pub guard_count : Bool → ℕ
+guard_count guards = if guards then 1 else 0
 
-  found-there : (state : State) (word passed : ℕ) (move : Move) → IsFound rules state 1 word passed move → (run_of move).first < zone_pages * rules.zones
-  found-there state word passed move found =
-      let one = found.count_is in
+-- a block of whole pages has some
+pub some-pages : (rules : Rules) (size : ℕ) → size_class rules size ≡ None → 0 < data_pages size
+some-pages rules size none = ⊎_elim
+    (λ e. let class : Some 0 ≡ None = rw e at none in cc)
+    (λ ne. omega (arith, data_pages-hold size))
+    (cases_eq size 0)
+
+module _ (rules : Rules) (size : ℕ) (none : size_class rules size ≡ None) where
+  pub pages-uses : (address site : ℕ) → uses_of_block rules (record { address = address; size = size; site = site }) ≡ uses_of_pages rules (record { address = address; size = size; site = site })
+  pages-uses address site = ap (uses_by_class rules (record { address = address; size = size; site = site })) none
+
+  module _ (held : List ℕ) (used : List Use) (first site : ℕ) (guards : Bool) (run : HasRun rules held used first (data_pages size + guard_count guards)) where
+    abbrev block : Block
+    block = record { address = address_of first; size = size; site = site }
+
+    abbrev front : Use
+    front = record { extent = data_of block; kind = Pages }
+
+    abbrev guard : Use
+    guard = record { extent = guard_of block; kind = Guard }
+
+    abbrev whole-front : IsWhole front
+    whole-front = record { first = first; count = data_pages size; some = some-pages rules size none; first_is = refl; len_is = refl; kind_is = tt }
+
+    abbrev whole-guard : IsWhole guard
+    whole-guard = record { first = first + data_pages size; count = 1; some = omega arith; first_is = omega arith; len_is = refl; kind_is = tt }
+
+    pages-enter : Enters rules held used (front ∷ (if guards then guard ∷ [] else []))
+    pages-enter = by_guard guards refl
+      where
+        by_guard : (some : Bool) → guards ≡ some → Enters rules held used (front ∷ (if some then guard ∷ [] else []))
+        by_guard false is =
+            let high : first + data_pages size ≤ first + (data_pages size + guard_count guards) = omega arith in
+            record {
+              placed = (run-placed rules held used first _ run front whole-front (omega arith) high, tt);
+              own = (tt, tt);
+              others = (run-together rules held used first _ run front whole-front (omega arith) high, tt);
+            }
+        by_guard true is =
+            let count : guard_count guards ≡ 1 = ap guard_count is in
+            let high : first + data_pages size ≤ first + (data_pages size + guard_count guards) = omega arith in
+            let last : first + data_pages size + 1 ≤ first + (data_pages size + guard_count guards) = omega arith in
+            let from : first ≤ first + data_pages size = omega arith in
+            record {
+              placed = (run-placed rules held used first _ run front whole-front (omega arith) high, (run-placed rules held used first _ run guard whole-guard from last, tt));
+              own = ((record { apart = apart-before (data_of block) (guard_of block) (omega arith); alike = λ page one two. tt }, tt), (tt, tt));
+              others = (run-together rules held used first _ run front whole-front (omega arith) high, (run-together rules held used first _ run guard whole-guard from last, tt));
+            }
+
+  pages-sound : (state : State) (page word site : ℕ) → is_too_large rules size ≡ false → HasRun rules state.held (uses rules state) page (block_pages rules size) → IsSound rules state → IsSound rules ((placed_on rules state page word size site).next)
+  unfolding address_on
+  pages-sound state page word site fits run is =
+      let address = address_on rules state page word (size_class rules size) in
+      let at : address ≡ address_of page = ap (address_on rules state page word) none in
+      let block : Block = record { address = address; size = size; site = site } in
+      let Enter : List Use → Type 0 = λ new. Enters rules state.held (uses rules state) new in
+      let count : pages_for rules size ≡ block_pages rules size = ap (pages_by_class rules size) none in
+      let zone = run.zone in
+      let page_is : page_at address ≡ page = ap page_at at ∙ (let same : page_at (address_of page) ≡ page = omega arith in same) in
+      fresh-sound rules (with_block block state) (block-sound rules block state
+      (record { fits = fits; within = let Z : ℕ → Type 0 = λ p. bit_of p + pages_for rules size ≤ zone_pages in subst Z (sym page_is) (omega arith) })
+      (subst Enter (sym (pages-uses address site ∙ ap (λ a. uses_of_pages rules (record { address = a; size = size; site = site })) at))
+      (pages-enter state.held (uses rules state) page site rules.options.guard run)) is) block
+
+-- ---- a block of any size
+
+-- there is room for it on the page, or in the run from it on
+abbrev pub HasRoom : Rules → List ℕ → List Use → ℕ → ℕ → Option ℕ → Type 0
+HasRoom rules held used size page (Some class) = Serves rules held used page class
+HasRoom rules held used size page None = HasRun rules held used page (block_pages rules size)
+
+-- what is in use stays on held pages where more are held
+sound-held : (rules : Rules) (held more : List ℕ) (used : List Use) → ((page : ℕ) → is_held held page ≡ true → is_held more page ≡ true) → AreSound rules held used → AreSound rules more used
+sound-held rules held more used wider sound = record {
+  placed = all-weaker (IsPlaced rules held) (IsPlaced rules more) used
+      (λ one on. record { shape = on.shape; held_is = λ page touched. wider page (on.held_is page touched); there = on.there })
+      sound.placed;
+  together = sound.together;
+}
+
+-- pages that aren't held join the held ones, with zeros
+pub with_pages-sound : (rules : Rules) (state : State) (run : Run) → run.first + run.count ≤ zone_pages * rules.zones → IsSound rules state → IsSound rules (with_pages run state)
+with_pages-sound rules state run there is = record {
+  slots = is.slots;
+  zoned = is.zoned;
+  ascends = ascends-with_run run state.held is.ascends;
+  arena = all-with_run run state.held (λ p. p < zone_pages * rules.zones) (λ page low. omega arith) is.arena;
+  pages = come-pages state run ∙ is.pages;
+  bytes = come-bytes state run is.bytes (omega (arith, is.pages));
+  sound = sound-held rules state.held (with_run run state.held) (uses rules state) (λ other on. held-still run state.held other on) is.sound;
+}
+
+-- a page that isn't held is touched by nothing
+untouched-new : (rules : Rules) (held : List ℕ) (used : List Use) (page : ℕ) → is_held held page ≡ false → AllByRecursion (IsPlaced rules held) used → IsUntouched used page
+untouched-new rules held used page new placed =
+    all-weaker (IsPlaced rules held) (λ one. touches page one ≡ false) used
+    (λ one on. ⊎_elim (λ touched. absurd (true≢false (sym (on.held_is page touched) ∙ new))) (λ isnt. isnt) (cases_Bool (touches page one)))
+    placed
+
+-- the run that was found
+module _ (rules : Rules) (state : State) (count word passed : ℕ) (move : Move) (found : IsFound rules state count word passed move) where
+  abbrev run : Run
+  run = run_of move
+
+  pub found-there : run.first + run.count ≤ zone_pages * rules.zones
+  found-there =
       let fresh = found.fresh in
       let inside = fresh.inside in
       let few = found.few in
       let below : move.zone < rules.zones = rw found.zone (omega (arith, mod_below (word / 32 + passed) rules.zones (omega arith))) in
       omega arith
 
+  found-run : IsSound rules state → HasRun rules (with_run run state.held) (uses rules state) run.first count
+  found-run is =
+      let sound = is.sound in
+      let fresh = found.fresh in
+      let inside = fresh.inside in
+      let Run : ℕ → Type 0 = λ n. HasRun rules (with_run run state.held) (uses rules state) run.first n in
+      subst Run found.count_is (record {
+        held_is = held-in_run run state.held;
+        there = found-there;
+        untouched = λ page low high. untouched-new rules state.held (uses rules state) page (fresh.new page low high) sound.placed;
+        zone = omega arith;
+      })
+
+module _ (rules : Rules) (size : ℕ) where
+  room-run : (held : List ℕ) (used : List Use) (page : ℕ) (class : Option ℕ) → size_class rules size ≡ class → AllByRecursion (IsPlaced rules held) used → HasRun rules held used page (pages_by_class rules size class) → HasRoom rules held used size page class
+  room-run held used page (Some class) is placed run = serves-run rules held used placed page class (class_of-is_class size rules.options.canary class is) run
+  room-run held used page None is placed run = run
+
+  room-own : (state : State) (page : ℕ) (class : Option ℕ) → size_class rules size ≡ class → page_by_class rules state size class ≡ Some page → IsSound rules state → HasRoom rules state.held (uses rules state) size page class
+  room-own state page (Some class) class_is own is =
+      let sound = is.sound in
+      serves-own rules state.held (uses rules state) sound.placed page class (word_at rules state.drawn) (class_of-is_class size rules.options.canary class class_is) is.arena sound.together own
+  room-own state page None class_is own is = let sound = is.sound in run-own rules state.held (uses rules state) sound.placed page (block_pages rules size) is.arena own
+
+  placed-sound : (state : State) (page word site : ℕ) (class : Option ℕ) → size_class rules size ≡ class → is_too_large rules size ≡ false → HasRoom rules state.held (uses rules state) size page class → IsSound rules state
+      → IsSound rules ((placed_on rules state page word size site).next)
+  placed-sound state page word site (Some class) is fits room sound = chunk-sound rules size class is state page word site room sound
+  placed-sound state page word site None is fits room sound = pages-sound rules size is state page word site fits room sound
+
   -- with the page that the pool has, or with a claim
-  where-sound : (state : State) (own : Option ℕ) (first second site : ℕ) (answers : Answers)
-      → ((page : ℕ) → own ≡ Some page → Serves rules state.held (uses rules state) page class)
-      → MayAnswer rules state (search_unless own 1 first) answers → IsSound rules state
-      → IsSound rules ((placed_where rules (drawn_more 2 state) own answers.claim second size site).next)
-  where-sound state (Some page) first second site answers serves may is = placed-sound (drawn_more 2 state) page second site (serves page refl) (drawn_more-sound rules 2 state is)
-  where-sound state None first second site answers serves may is = on_claim answers.claim may.1
+  where-sound : (state : State) (words : ℕ) (own : Option ℕ) (first second site : ℕ) (answers : Answers) → is_too_large rules size ≡ false
+      → ((page : ℕ) → own ≡ Some page → HasRoom rules state.held (uses rules state) size page (size_class rules size))
+      → MayAnswer rules state (search_unless own (pages_for rules size) first) answers → IsSound rules state
+      → IsSound rules ((placed_where rules (drawn_more words state) own answers.claim second size site).next)
+  where-sound state words (Some page) first second site answers fits room may is =
+      placed-sound (drawn_more words state) page second site (size_class rules size) refl fits (room page refl) (drawn_more-sound rules words state is)
+  where-sound state words None first second site answers fits room may is = on_claim answers.claim may.1
     where
-      on_claim : (claim : Option Move) → EndsSearch rules state 1 first (length answers.looks) claim → IsSound rules ((placed_by_claim rules (drawn_more 2 state) claim second size site).next)
-      on_claim None ends = drawn_more-sound rules 2 state is
+      on_claim : (claim : Option Move) → EndsSearch rules state (pages_for rules size) first (length answers.looks) claim → IsSound rules ((placed_by_claim rules (drawn_more words state) claim second size site).next)
+      on_claim None ends = drawn_more-sound rules words state is
       on_claim (Some move) ends =
-          let one : (run_of move).count ≡ 1 = ends.count_is in
-          claimed-sound (drawn_more 2 state) move second site one (found-there state first (length answers.looks) move ends) (found-new state first (length answers.looks) move ends) (drawn_more-sound rules 2 state is)
+          let run : Run = run_of move in
+          let drawn = drawn_more words state in
+          let passed = length answers.looks in
+          let wide = with_pages-sound rules drawn run (found-there rules state (pages_for rules size) first passed move ends) (drawn_more-sound rules words state is) in
+          let sound = wide.sound in
+          placed-sound (with_pages run drawn) run.first second site (size_class rules size) refl fits
+          (room-run (with_run run state.held) (uses rules state) run.first (size_class rules size) refl sound.placed (found-run rules state (pages_for rules size) first passed move ends is)) wide
 
   pub malloc-sound : (state : State) (site : ℕ) (answers : Answers) → MayAnswer rules state (malloc_wish rules state size) answers → IsSound rules state → IsSound rules ((malloc rules state size site answers.claim).next)
-  malloc-sound state site answers may is =
-      let sound = is.sound in
-      let word = word_at rules state.drawn in
-      let own = own_page (uses rules state) state.held class word in
-      let Sound : Step → Type 0 = λ step. IsSound rules step.next in
-      let May : Wish → Type 0 = λ wish. MayAnswer rules state wish answers in
-      subst Sound (sym (chunk-malloc state site answers.claim))
-      (where-sound state own word (word_at rules (state.drawn + 1)) site answers
-      (λ page found. serves-own rules state.held (uses rules state) sound.placed page class word (class_of-is_class size rules.options.canary class class_is) is.arena sound.alike found)
-      (subst May (chunk-wish state) may) is)
+  malloc-sound state site answers may is = large (is_too_large rules size) refl may
+    where
+      large : (test : Bool) → is_too_large rules size ≡ test → MayAnswer rules state (if test then Nothing else placing_wish rules state size) answers
+          → IsSound rules ((if test then unchanged state (null_or_fault rules TooLarge) else block_placed rules (words_for rules size) (placing rules state size site answers.claim)).next)
+      large true test may = is
+      large false test may =
+          where-sound state (words_for rules size) (page_for rules state size) (word_at rules state.drawn) (word_at rules (state.drawn + 1)) site answers test
+          (λ page found. room-own state page (size_class rules size) refl found is) may is

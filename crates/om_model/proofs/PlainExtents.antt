@@ -1,5 +1,5 @@
 -- Extents: where they share a byte or a page, and the bytes of one. And what a well-formed state is made of.
-use Rattle.std.proofs.Common.{◌≡◌, ℕ, ◌+◌, ◌-◌, ◌<◌, ◌≤◌, ◌*◌, ◌^◌, Bool, true, false, not, ◌&&◌, ◌||◌, nat_le, nat_lt, [], ◌∷◌, length, IsSome, IsTrue, ◌↔◌, refl, sym, ap, ◌∙◌, arith}
+use Rattle.std.proofs.Common.{◌≡◌, ℕ, ◌+◌, ◌-◌, ◌<◌, ◌≤◌, ◌*◌, ◌^◌, Bool, true, false, not, ◌&&◌, ◌||◌, nat_le, nat_lt, [], ◌∷◌, length, IsTrue, ◌↔◌, refl, sym, ap, ◌∙◌, arith}
 use Rattle.std.specs.List.{AllByRecursion, list_all}
 use Rattle.std.proofs.lemmas.Bool.{ltb-true, cases_lt}
 use Rattle.std.proofs.lemmas.List.{get_or_past}
@@ -11,9 +11,9 @@ use Rattle.om_geom.specs.Numbers.{zone_pages, first_address}
 use Rattle.om_geom.specs.AddressLaws.{SharesByte-true, shares_byte-from}
 use Rattle.om_geom.specs.declared.address.Extent.{Extent}
 use Rattle.om_model.specs.Pool.InUse.{Use, uses, touches}
-use Rattle.om_model.specs.Pool.Rules.{Rules, size_class}
+use Rattle.om_model.specs.Pool.Rules.{Rules}
 use Rattle.om_model.specs.Pool.State.{State, slot_count, delayed, holds, is_held}
-use Rattle.om_model.specs.Pool.WellFormed.{EachPair, AreAlike, AreApart, AgreeOnPages, BeginsRight, HasBytes, LiesOn, IsWellFormed}
+use Rattle.om_model.specs.Pool.WellFormed.{EachPair, AreAlike, AreApart, AgreeOnPages, BeginsRight, FitsZone, HasBytes, LiesOn, IsWellFormed}
 
 pub apart-decided : (a b : Extent) (shares : Bool) → shares ≡ shares_byte a b → IsTrue (not shares) ↔ (SharesByte a b → ⊥)
 apart-decided a b true is = ((λ e. cc), (λ apart. absurd (apart (SharesByte-true a b (sym is)))))
@@ -56,14 +56,14 @@ bytes-decided state below each page = ⊎_elim
     (cases_lt page (length state.memory))
 
 -- the parts of a well-formed state, each decided by a test
-pub well-formed-decided : (rules : Rules) (state : State) (held bytes classes chunks placed lie : Bool) → length state.slots ≡ slot_count
+pub well-formed-decided : (rules : Rules) (state : State) (held bytes classes zoned placed lie : Bool) → length state.slots ≡ slot_count
     → IsTrue held ↔ EachPair (λ page other. page < other) state.held
     → IsTrue bytes ↔ (AllByRecursion (λ page. page < zone_pages * rules.zones) state.held × (length state.memory ≡ zone_pages * rules.zones) × ((page : ℕ) → HasBytes state page))
     → IsTrue classes ↔ AllByRecursion (λ place. IsTrue (is_class place.class)) (delayed state.slots)
-    → IsTrue chunks ↔ AllByRecursion (λ block. IsSome (size_class rules block.size)) state.live
+    → IsTrue zoned ↔ AllByRecursion (FitsZone rules) state.live
     → IsTrue placed ↔ (AllByRecursion (λ one. BeginsRight (one.extent).first one.kind) (uses rules state) × EachPair AreApart (uses rules state) × EachPair AgreeOnPages (uses rules state))
     → IsTrue lie ↔ AllByRecursion (LiesOn rules state) (uses rules state)
-    → IsTrue (list_all (λ test. test) (held ∷ bytes ∷ classes ∷ chunks ∷ placed ∷ lie ∷ [])) ↔ IsWellFormed rules state
+    → IsTrue (list_all (λ test. test) (held ∷ bytes ∷ classes ∷ zoned ∷ placed ∷ lie ∷ [])) ↔ IsWellFormed rules state
 well-formed-decided rules state true true true true true true slots a m k b c d = (
   (λ e. record {
     ascend = a.0 refl;
@@ -72,7 +72,7 @@ well-formed-decided rules state true true true true true true slots a m k b c d 
     bytes = (m.0 refl).2;
     slots = slots;
     classes = k.0 refl;
-    chunks = b.0 refl;
+    zoned = b.0 refl;
     begin = (c.0 refl).0;
     apart = (c.0 refl).1;
     on_held = d.0 refl;
@@ -80,9 +80,9 @@ well-formed-decided rules state true true true true true true slots a m k b c d 
   }),
   (λ is. refl),
 )
-well-formed-decided rules state false bytes classes chunks placed lie slots a m k b c d = ((λ e. cc), (λ is. a.1 is.ascend))
-well-formed-decided rules state true false classes chunks placed lie slots a m k b c d = ((λ e. cc), (λ is. m.1 (is.arena, is.pages, is.bytes)))
-well-formed-decided rules state true true false chunks placed lie slots a m k b c d = ((λ e. cc), (λ is. k.1 is.classes))
-well-formed-decided rules state true true true false placed lie slots a m k b c d = ((λ e. cc), (λ is. b.1 is.chunks))
+well-formed-decided rules state false bytes classes zoned placed lie slots a m k b c d = ((λ e. cc), (λ is. a.1 is.ascend))
+well-formed-decided rules state true false classes zoned placed lie slots a m k b c d = ((λ e. cc), (λ is. m.1 (is.arena, is.pages, is.bytes)))
+well-formed-decided rules state true true false zoned placed lie slots a m k b c d = ((λ e. cc), (λ is. k.1 is.classes))
+well-formed-decided rules state true true true false placed lie slots a m k b c d = ((λ e. cc), (λ is. b.1 is.zoned))
 well-formed-decided rules state true true true true false lie slots a m k b c d = ((λ e. cc), (λ is. c.1 (is.begin, is.apart, is.alike)))
 well-formed-decided rules state true true true true true false slots a m k b c d = ((λ e. cc), (λ is. d.1 is.on_held))

@@ -1,6 +1,11 @@
-ghost use Rattle.std.specs.Prelude.{List, ◌++◌};
+ghost use Rattle.std.specs.Prelude.{ℕ, List, ◌++◌};
 ghost use Rattle.om_model.specs.Pool.Rules.{Rules};
-ghost use Rattle.om_model.specs.Pool.Journal.{IsLawful, state_of};
+ghost use Rattle.om_model.specs.Pool.State.{State};
+ghost use Rattle.om_model.specs.Pool.Steps.{Answers};
+ghost use Rattle.om_model.specs.Pool.Malloc.{malloc_wish, malloc};
+ghost use Rattle.om_model.specs.Pool.Free.{free};
+ghost use Rattle.om_model.specs.Pool.Access.{store};
+ghost use Rattle.om_model.specs.Pool.Journal.{MayAnswer, IsLawful, state_of};
 ghost use Rattle.om_model.specs.Pool.WellFormed.{IsWellFormed};
 
 use crate::entry::Entry;
@@ -10,4 +15,16 @@ use crate::entry::Entry;
 pub fn blocks_are_apart()
     ensures { (rules : Rules) (before rest : List Entry) → IsLawful rules (before ++ rest)
         → IsWellFormed rules (state_of rules before) }
+{}
+
+/// A law of the definitions alone: each step keeps states well formed, for blocks of every size. A load keeps the
+/// state as it is.
+pub fn steps_keep_well_formed()
+    ensures malloc { (rules : Rules) (state : State) (size site : ℕ) (answers : Answers)
+        → MayAnswer rules state (malloc_wish rules state size) answers → IsWellFormed rules state
+        → IsWellFormed rules ((malloc rules state size site answers.claim).next) }
+    ensures free { (rules : Rules) (state : State) (address : ℕ) → IsWellFormed rules state
+        → IsWellFormed rules ((free rules state address).next) }
+    ensures store { (rules : Rules) (state : State) (address byte : ℕ) → IsWellFormed rules state
+        → IsWellFormed rules ((store rules state address byte).next) }
 {}

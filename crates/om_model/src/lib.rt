@@ -23,7 +23,7 @@ pub use content::{Head, Told};
 pub use drawn::Drawn;
 pub use entry::{Asked, CallEntry, Entry, Move, ZoneMove};
 pub use journal::Journal;
-pub use laws::blocks_are_apart;
+pub use laws::{blocks_are_apart, steps_keep_well_formed};
 pub use looks::{Look, LookList, Named};
 pub use operation::{Call, Op, Who};
 pub use reply::{Fault, Outcome, Reply, Segv, Why};

@@ -1,29 +1,65 @@
--- What a free shows of the core.
-use Rattle.std.proofs.Common.{◌≡◌, ℕ, ◌+◌, ◌*◌, ◌/◌, Bool, true, false, ◌&&◌, ◌||◌, List, [], ◌∷◌, ◌++◌, cond, if◌then◌else◌, Option, Some, None, refl, sym, ap, ◌∙◌, subst, arith}
-use Rattle.std.proofs.lemmas.Nat.{mod_below}
-use Rattle.om_geom.specs.Addresses.{page_at}
-use Rattle.om_geom.specs.AddressLaws.{page-from_zone}
-use Rattle.om_model.specs.Pool.Free.{Freed, is_surplus, kept_or_let_go, evicted, put_off, slot_of, drawn_slot, delay, freed_again, slot_holds, free, done_with}
-use Rattle.om_model.specs.Pool.InUse.{uses, is_free_page}
-use Rattle.om_model.specs.Pool.Journal.{GivesUp}
-use Rattle.om_model.specs.Pool.Rules.{Rules, words_from}
-use Rattle.om_model.specs.Pool.Runs.{Run}
-use Rattle.om_model.specs.Pool.State.{State, drawn_more, without_pages}
+-- What a free shows of the core: what it finds, and what becomes of a live place that is put off.
+use Rattle.std.proofs.Common.{◌≡◌, ℕ, ◌+◌, ◌*◌, ◌<◌, ◌≤◌, Bool, true, false, not, ◌&&◌, ◌||◌, ◌==◌, nat_le, nat_lt, List, cond, if◌then◌else◌, Option, Some, None, IfSome, is_some, slice_set, refl, sym, ap, ◌∙◌, subst, arith}
+use Rattle.std.specs.List.{flat_map, AllByRecursion}
+use Rattle.std.specs.Option.{is_none}
+use Rattle.std.proofs.lemmas.Bool.{and_from, and_parts, eqb-true}
+use Rattle.om_broker.specs.declared.broker.Broker as broker
+use Rattle.om_chunk.specs.Pages.{page_left, place_in, with_freed, with_place}
+use Rattle.om_chunk.specs.declared.place.Place.TheVariants as has
+use Rattle.om_frame.specs.Memory as frames
+use Rattle.om_geom.specs.Addresses.{address_of, is_in_arena, page_at}
+use Rattle.om_geom.specs.FitLaws.{find-passes}
+use Rattle.om_geom.specs.Numbers.{first_address, most_zones, zone_pages}
+use Rattle.om_model.specs.Pool.Free.{Freed, is_surplus, kept_or_let_go, evicted, into_slot, put_off, slot_of, drawn_slot, delay, freed_again, slot_holds, free_at, done_with}
+use Rattle.om_model.specs.Pool.InUse.{Chunk, Use, use_of_place, uses_by_class, uses_of_block, uses, touches, page_kind, is_free_page}
+use Rattle.om_model.specs.Pool.Journal.{AreServed, GivesUp, is_served}
+use Rattle.om_model.specs.Pool.Junk.{extent_of_place, freed_byte, with_freed_place}
+use Rattle.om_model.specs.Pool.Rules.{Rules, size_class}
+use Rattle.om_model.specs.Pool.Standing.{Standing, LivePlace, block_at, standing}
+use Rattle.om_model.specs.Pool.State.{State, slot_count, drawn_more, is_held, filled_with, without_pages, without_run}
 use Rattle.om_model.specs.Pool.Steps.{Step}
+use Rattle.om_model.specs.Pool.WellFormed.{LiesOn}
+use Rattle.om_model.specs.declared.block.Block.{Block}
 use Rattle.om_model.specs.declared.block.Place.{Place}
-use Rattle.om_model.specs.declared.entry.Entry.TheVariants.{Call}
 use Rattle.om_model.specs.declared.entry.Move.{Move}
-use Rattle.om_model.specs.declared.operation.Op.TheVariants.{Free}
-use Rattle.om_model.specs.declared.operation.Who.{Who}
-use Rattle.om_model.specs.declared.reply.Reply.{Reply}
 use Rattle.om_model.specs.declared.reply.Reply.TheVariants as reply
 use Rattle.om_model.specs.declared.reply.Fault.TheVariants as fault
-use Rattle.om_pool.specs.CoreKept.{IsCore}
-use Rattle.om_pool.specs.HoldingsView.{rules_in, state_in}
-use Rattle.om_pool.specs.Zones.{one_page, ZoneTable, IsReleased, IsLeft}
+use Rattle.om_model.proofs.Bytes.{freed-drawn, freed-sound}
+use Rattle.om_model.proofs.Each.{all-both, all-find, all-first}
+use Rattle.om_model.proofs.Free.{into_slot-sound, of-block}
+use Rattle.om_model.proofs.PageKinds.{all-have}
+use Rattle.om_model.proofs.Sound.{IsPlaced, IsSound, same_class, touches-first, well-formed}
+use Rattle.om_pages.specs.Kinds as kinds
+use Rattle.om_pages.specs.Tables.{AreAll, with_run}
+use Rattle.om_pages.specs.declared.kind.PageKind.{PageKind}
+use Rattle.om_pages.specs.declared.kind.PageKind.TheVariants as table
+use Rattle.om_pool.specs.Asking.{one_page, IsLeft}
+use Rattle.om_pool.specs.Chunks.{HoldsPlace}
+use Rattle.om_pool.specs.CoreKept.{core_state, IsCore}
+use Rattle.om_pool.specs.Freeing.{evicted_tables, is_let_go, Evicts, GivesTo, FreeIs, IsThere}
+use Rattle.om_pool.specs.HoldingsView.{rules_in, tables_in, with_drawn, IsSameBut}
+use Rattle.om_pool.specs.PoolView.{says_no_run}
+use Rattle.om_pool.specs.ByTables.{standing_by}
+use Rattle.om_pool.specs.TableSteps.{delayed_place, filled_by, freed_filled, freed_place, gone_page, is_surplus_by, page_goes}
+use Rattle.om_pool.specs.Tables.{Tables, StandFor}
+use Rattle.om_pool.specs.declared.holdings.Holdings.{Holdings}
 use Rattle.om_pool.specs.declared.pool_core.Core.{Core}
-use Rattle.om_pool.proofs.CoreLaws.{entry_with, Does}
-use Rattle.om_pool.proofs.FitsLaws.{fits-left}
+use Rattle.om_words.specs.DrawnWords.{WordSource}
+use Rattle.om_pool.proofs.CoreLaws.{core-served, core-sound, same-rules}
+use Rattle.om_pool.proofs.Slots.{waiting}
+use Rattle.om_pool.proofs.TableAnswers.{HasPlace, live-place, standing-by}
+use Rattle.om_pool.proofs.TablePages.{all-held, bytes-filled, free-counted, pages-go}
+use Rattle.om_pool.proofs.TableSlots.{gone-held, gone-low, gone-place, put-off-gone, put-off-left, put-off-new}
+use Rattle.om_pool.proofs.TableTies.{shelf-holds}
+
+-- ---- what a free finds
+
+module _ (core : Core) (is : IsCore core) (address : ℕ) (answer : Standing) (answered : answer ≡ standing_by core.state.zones (tables_in core.state) address) where
+  pub stands-at : standing (rules_in core.state) (core_state core) address ≡ answer
+  stands-at = sym (answered ∙ standing-by (rules_in core.state) (tables_in core.state) (core_state core) (core-sound core is) is.tables address (core-served core is))
+
+  pub frees-at : FreeIs core address (free_at (rules_in core.state) (core_state core) address answer)
+  frees-at = ap (free_at (rules_in core.state) (core_state core) address) stands-at
 
 -- ---- a run that became free
 
@@ -33,23 +69,290 @@ evicted-cond true false gone stays e = refl
 evicted-cond false surplus gone stays e = refl
 
 module _ (rules : Rules) (state : State) (place : Place) where
-  pub evicted-kept : (is_free_page (uses rules state) (page_at place.address) && is_surplus rules state) ≡ false → evicted rules state (Some place) ≡ record { release = None; next = state }
+  evicted-kept : (is_free_page (uses rules state) (page_at place.address) && is_surplus rules state) ≡ false → evicted rules state (Some place) ≡ record { release = None; next = state }
   unfolding kept_or_let_go
   evicted-kept few = evicted-cond (is_free_page (uses rules state) (page_at place.address)) (is_surplus rules state) _ (record { release = None; next = state }) few
 
-  pub evicted-gone : is_free_page (uses rules state) (page_at place.address) ≡ true → is_surplus rules state ≡ true
+  evicted-gone : is_free_page (uses rules state) (page_at place.address) ≡ true → is_surplus rules state ≡ true
       → evicted rules state (Some place) ≡ record { release = Some (one_page (page_at place.address)); next = without_pages (one_page (page_at place.address)) state }
   unfolding kept_or_let_go
   evicted-gone free many = rw (free, many) refl
 
--- the move gives up the page
-pub gives-page : (old new : ZoneTable) (page : ℕ) (move : Move) → IsReleased old new page 1 move → GivesUp (Some (one_page page)) (Some move)
-gives-page old new page move released =
-    let first : 32 * move.zone + move.first ≡ page = ap (λ z. 32 * z + move.first) released.zone ∙ ap (λ b. 32 * (page / 32) + b) released.first ∙ page-from_zone page in
-    record {
-      run_is = ap (λ f. Some (let run : Run = record { first = f; count = move.count } in run)) first ∙ ap (λ n. Some (let run : Run = record { first = page; count = n } in run)) released.count;
-      inside = omega (arith, mod_below page 32 (omega arith), released.first, released.count);
-    }
+-- ---- a fill
+
+module _ (rules : Rules) (place : Place) where
+  abbrev byte_test : Bool
+  byte_test = rules.options.junk == 1 || rules.options.junk == 2
+
+  freed-uses : (state : State) → uses rules (with_freed_place rules place state) ≡ uses rules state
+  unfolding with_freed_place
+  freed-uses state = by byte_test
+    where
+      by : (b : Bool) → uses rules (if b then filled_with freed_byte (extent_of_place place) state else state) ≡ uses rules state
+      by true = refl
+      by false = refl
+
+  freed-held : (state : State) → (with_freed_place rules place state).held ≡ state.held
+  unfolding with_freed_place
+  freed-held state = by byte_test
+    where
+      by : (b : Bool) → (if b then filled_with freed_byte (extent_of_place place) state else state).held ≡ state.held
+      by true = refl
+      by false = refl
+
+  freed-stands : (tables : Tables) (state : State) → StandFor rules tables state → StandFor rules (freed_filled rules place tables) (with_freed_place rules place state)
+  unfolding with_freed_place
+  freed-stands tables state stands = by byte_test
+    where
+      by : (b : Bool) → StandFor rules (if b then filled_by freed_byte (extent_of_place place) tables else tables) (if b then filled_with freed_byte (extent_of_place place) state else state)
+      by true = bytes-filled rules tables state stands freed_byte (extent_of_place place)
+      by false = stands
+
+  -- it changes neither pages nor chunks
+  freed-chunks : (tables : Tables) → (freed_filled rules place tables).chunks ≡ tables.chunks
+  freed-chunks tables = by byte_test
+    where
+      by : (b : Bool) → (if b then filled_by freed_byte (extent_of_place place) tables else tables).chunks ≡ tables.chunks
+      by true = refl
+      by false = refl
+
+  freed-pages : (tables : Tables) → (freed_filled rules place tables).pages ≡ tables.pages
+  freed-pages tables = by byte_test
+    where
+      by : (b : Bool) → (if b then filled_by freed_byte (extent_of_place place) tables else tables).pages ≡ tables.pages
+      by true = refl
+      by false = refl
+
+  freed-after : (tables : Tables) (address : ℕ) → freed_place (freed_filled rules place tables) address ≡ freed_filled rules place (freed_place tables address)
+  freed-after tables address = by byte_test
+    where
+      by : (b : Bool) → freed_place (if b then filled_by freed_byte (extent_of_place place) tables else tables) address
+          ≡ (if b then filled_by freed_byte (extent_of_place place) (freed_place tables address) else freed_place tables address)
+      by true = refl
+      by false = refl
+
+-- ---- what a place leaves behind that left its slot
+
+-- the tables after it is free, and what the broker was given
+abbrev pub left_tables : Rules → Tables → Option Place → Tables
+left_tables rules tables None = tables
+left_tables rules tables (Some gone) = evicted_tables rules tables gone.address
+
+abbrev pub GivesOf : {B A : Type 0} → broker.Ghosts B A → Rules → Tables → B → B → Option Place → Option Move → Type 0
+GivesOf g rules tables before after None release = (after ≡ before) × (release ≡ None)
+GivesOf g rules tables before after (Some gone) release = GivesTo g before after (page_at gone.address) (is_let_go rules tables gone.address) release
+
+-- what a call shows of the pages that it held, by what it left
+pub record Leaves {B A : Type 0} (g : broker.Ghosts B A) (rules : Rules) (held : List ℕ) (drawn : ℕ) (tables : Tables) (before after : B) (left : Freed) (release : Option Move) : Type 0 where
+  pub stands : StandFor rules tables left.next
+  pub gives_up : GivesUp left.release release
+  pub broker : IsLeft g before after held (left.next).held release
+  pub drawn_is : (left.next).drawn ≡ drawn
+
+module _ {B A : Type 0} (g : broker.Ghosts B A) (rules : Rules) (held : List ℕ) (drawn : ℕ) (tables : Tables) (state : State) (stands : StandFor rules tables state) (held_is : state.held ≡ held) (drawn_is : state.drawn ≡ drawn)
+    (before after : B) where
+  leaves-none : (release : Option Move) → after ≡ before → release ≡ None → Leaves g rules held drawn tables before after (record { release = None; next = state }) release
+  leaves-none release same none =
+      let P : Option Move → Type 0 = λ r. Leaves g rules held drawn tables before after (record { release = None; next = state }) r in
+      subst P (sym none) (record { stands = stands; gives_up = record { run_is = refl; inside = tt }; broker = (same, held_is); drawn_is = drawn_is })
+
+  leaves-some : (place : Place) → is_held held (page_at place.address) ≡ true → (goes surplus : Bool) → is_free_page (uses rules state) (page_at place.address) ≡ goes → is_surplus rules state ≡ surplus
+      → (release : Option Move) → GivesTo g before after (page_at place.address) (goes && surplus) release
+      → Leaves g rules held drawn (if goes && surplus then gone_page tables (page_at place.address) else tables) before after (evicted rules state (Some place)) release
+  leaves-some place here true true free many None gives = absurd gives
+  leaves-some place here true true free many (Some move) gives =
+      let page = page_at place.address in
+      let P : Freed → Type 0 = λ left. Leaves g rules held drawn (gone_page tables page) before after left (Some move) in
+      subst P (sym (evicted-gone rules state place free many)) (record {
+        stands = pages-go rules tables state stands (one_page page);
+        gives_up = record { run_is = ap Some gives.run_is; inside = gives.inside };
+        broker = (page, record { given = gives; held = here; left = ap (without_run (one_page page)) held_is });
+        drawn_is = drawn_is;
+      })
+  leaves-some place here true false free few release gives =
+      let P : Freed → Type 0 = λ left. Leaves g rules held drawn tables before after left release in
+      subst P (sym (evicted-kept rules state place (ap (λ b. b && is_surplus rules state) free ∙ few))) (leaves-none release gives.0 gives.1)
+  leaves-some place here false surplus in_use any release gives =
+      let P : Freed → Type 0 = λ left. Leaves g rules held drawn tables before after left release in
+      subst P (sym (evicted-kept rules state place (ap (λ b. b && is_surplus rules state) in_use))) (leaves-none release gives.0 gives.1)
+
+-- the holdings after a live place entered a slot, and its bytes were filled
+module _ (old drawn delayed filled : Holdings) (slot : ℕ) (place : Place) (draws : drawn ≡ with_drawn 1 old) (waits : tables_in delayed ≡ delayed_place (tables_in drawn) slot place) (same : IsSameBut drawn delayed)
+    (fills : tables_in filled ≡ freed_filled (rules_in delayed) place (tables_in delayed)) (after : IsSameBut delayed filled) where
+  delayed-rules : rules_in delayed ≡ rules_in old
+  delayed-rules = same-rules drawn delayed same ∙ ap rules_in draws
+
+  pub filled-rules : rules_in filled ≡ rules_in old
+  filled-rules = same-rules delayed filled after ∙ delayed-rules
+
+  pub filled-words : filled.words.place ≡ old.words.place + 1
+  filled-words = ap (λ (w : WordSource). w.place) (after.words ∙ same.words) ∙ ap (λ (x : Holdings). x.words.place) draws
+
+  pub filled-tables : tables_in filled ≡ freed_filled (rules_in old) place (delayed_place (tables_in old) slot place)
+  filled-tables =
+      fills ∙ ap (λ r. freed_filled r place (tables_in delayed)) delayed-rules
+      ∙ ap (freed_filled (rules_in old) place) (waits ∙ ap (λ (x : Holdings). delayed_place (tables_in x) slot place) draws)
+
+-- what an eviction says of the core
+pub record HasEvicted {B A : Type 0} (g : broker.Ghosts B A) (old new : Core) (before after : B) (gone : Option Place) (release : Option Move) : Type 0 where
+  pub tables : tables_in new.state ≡ left_tables (rules_in old.state) (tables_in old.state) gone
+  pub gives : GivesOf g (rules_in old.state) (tables_in old.state) before after gone release
+  pub state : IsSameBut old.state new.state
+  pub same : new ≡ record old { state = new.state }
+
+pub has-evicted : {B A : Type 0} (g : broker.Ghosts B A) (old new : Core) (before after : B) (gone : Option Place) (release : Option Move) → Evicts g old new before after gone release → HasEvicted g old new before after gone release
+has-evicted g old new before after None release is =
+    let P : Core → Type 0 = λ core. HasEvicted g old core before after None release in
+    subst P (sym is.0) (record { tables = refl; gives = (is.1, is.2); state = record { opts = refl; zones = refl; words = refl }; same = refl })
+has-evicted g old new before after (Some gone) release is = record { tables = is.tables; gives = is.broker; state = is.state; same = is.same }
+
+-- ---- a live place is put off
+
+-- the class of a live block's size is that of its page
+module _ (rules : Rules) (state : State) (is : IsSound rules state) (served : AreServed rules state) (address : ℕ) (block : Block) (live : block_at state address ≡ Some block) (class : ℕ)
+    (kind : page_kind (uses rules state) (page_at address) ≡ Some (Chunk class)) where
+  block-begins : block.address ≡ address
+  block-begins = eqb-true block.address address (find-passes (λ (b : Block). b.address == address) state.live block live)
+
+  of-live : (P : Use → Type 0) → AllByRecursion P (uses rules state) → AllByRecursion P (uses_of_block rules block)
+  of-live P all = of-block rules state is address block live P (all-first P (flat_map (uses_of_block rules) state.live) (waiting state.slots) all)
+
+  live-class : size_class rules block.size ≡ Some class
+  live-class = by (size_class rules block.size) refl (all-find (λ (b : Block). is_served rules b.size ≡ true) (λ b. b.address == address) state.live block served live)
+    where
+      by : (own : Option ℕ) → size_class rules block.size ≡ own → is_some own ≡ true → own ≡ Some class
+      by None own some = cc
+      by (Some own) own_is some =
+          let sound = is.sound in
+          let one = use_of_place (record { address = block.address; class = own }) in
+          let OfKind : Use → Type 0 = λ u. touches (page_at address) u ≡ true → Some u.kind ≡ page_kind (uses rules state) (page_at address) in
+          let P : Use → Type 0 = λ u. IsPlaced rules state.held u × OfKind u in
+          let all = all-both (IsPlaced rules state.held) OfKind P (uses rules state) (λ u placed like. (placed, like)) sound.placed (all-have rules state.held (uses rules state) sound (page_at address)) in
+          let here = (subst (AllByRecursion P) (ap (uses_by_class rules block) own_is) (of-live P all)).0 in
+          let T : ℕ → Type 0 = λ p. touches p one ≡ true in
+          let same : Some (Chunk own) ≡ Some (Chunk class) = here.1 (subst T (ap page_at block-begins) (touches-first one (here.0).shape)) ∙ kind in
+          let inner : Chunk own ≡ Chunk class = cc in
+          ap Some (same_class own class inner)
+
+  -- memory has the bytes of its place
+  live-bytes : HoldsPlace state.memory (record { address = address; class = class })
+  live-bytes byte low high =
+      let formed = well-formed rules state is in
+      let one = use_of_place (record { address = block.address; class = class }) in
+      let lies = (subst (AllByRecursion (LiesOn rules state)) (ap (uses_by_class rules block) live-class) (of-live (LiesOn rules state) formed.on_held)).0 in
+      let begins = block-begins in
+      let both = and_parts (is_in_arena byte rules.zones) (is_held state.held (page_at byte)) (lies byte (omega arith, omega arith)) in
+      let inside = and_parts (nat_le first_address byte) (nat_lt byte (address_of (zone_pages * rules.zones))) both.0 in
+      and_from _ _ inside.0 (shelf-holds state (page_at byte) (is.bytes (page_at byte)) ∙ both.1)
+
+pub if-some : {X : Type 0} (P : X → Type 0) (o : Option X) → ((x : X) → o ≡ Some x → P x) → IfSome o P
+if-some P None each = tt
+if-some P (Some x) each = each x refl
+
+module _ (rules : Rules) (tables : Tables) (state : State) (is : IsSound rules state) (stands : StandFor rules tables state) (served : AreServed rules state) (address : ℕ) (place : Place) (block : Block)
+    (here : standing rules state address ≡ LivePlace place block) where
+  pub lives : HasPlace rules tables state address place block
+  lives = live-place rules tables state is stands address place block here
+
+  live : block_at state place.address ≡ Some block
+  live = let own = lives in ap (block_at state) own.place_is ∙ own.found_is
+
+  on_page : page_kind (uses rules state) (page_at place.address) ≡ Some (Chunk place.class)
+  on_page = let own = lives in ap (λ a. page_kind (uses rules state) (page_at a)) own.place_is ∙ own.on_page
+
+  class_is : size_class rules block.size ≡ Some place.class
+  class_is = live-class rules state is served place.address block live place.class on_page
+
+  pub place-bytes : HoldsPlace tables.memory place
+  place-bytes =
+      let Holds : List (List ℕ) → Type 0 = λ m. HoldsPlace m place in
+      subst Holds (sym stands.memory) (live-bytes rules state is served place.address block live place.class on_page)
+
+  module _ (slot : ℕ) (low : slot < slot_count) where
+    abbrev next : State
+    next = into_slot state slot place
+
+    abbrev put : State
+    put = put_off rules state slot place
+
+    abbrev waits : Tables
+    waits = delayed_place tables slot place
+
+    abbrev pub filled : Tables
+    filled = freed_filled rules place waits
+
+    next-sound : IsSound rules next
+    next-sound = into_slot-sound rules state is place.address block live place.class slot on_page
+
+    put-sound : IsSound rules put
+    put-sound = freed-sound rules next next-sound place
+
+    put-held : put.held ≡ state.held
+    put-held = freed-held rules place next
+
+    module _ (gone : Place) (full : slot_of state slot ≡ Some gone) where
+      abbrev page : ℕ
+      page = page_at gone.address
+
+      abbrev freed : Tables
+      freed = freed_place filled gone.address
+
+      goes-by : page_goes waits gone.address ≡ is_free_page (uses rules next) page
+      goes-by = put-off-left rules tables state place block slot live class_is low served is next-sound stands gone full
+
+      freed-stand : StandFor rules freed put
+      freed-stand =
+          let Stands : State → Tables → Type 0 = λ s t. StandFor rules t s in
+          let same : freed_place waits gone.address
+          ≡ record tables { pages = if is_free_page (uses rules next) page then with_run tables.pages page 1 table.Free else tables.pages; chunks = with_freed (with_place tables.chunks place.address has.Delayed) gone.address; slots = slice_set tables.slots slot (Some place) } =
+          ap (λ b. record tables { pages = if b then with_run tables.pages page 1 table.Free else tables.pages; chunks = with_freed (with_place tables.chunks place.address has.Delayed) gone.address; slots = slice_set tables.slots slot (Some place) }) goes-by in
+          subst (Stands put) (sym (freed-after rules place waits gone.address))
+          (freed-stands rules place (freed_place waits gone.address) next
+          (subst (Stands next) (sym same) (put-off-gone rules tables state place block slot live class_is low served is next-sound stands gone full)))
+
+      goes : is_free_page (uses rules put) page ≡ page_goes filled gone.address
+      goes =
+          ap (λ used. is_free_page used page) (freed-uses rules place next) ∙ sym goes-by
+          ∙ ap (λ chunks. is_none (page_left chunks gone.address)) (sym (freed-chunks rules place waits))
+
+      surplus : is_surplus rules put ≡ is_surplus_by rules freed
+      surplus = ap (λ n. not (nat_le n rules.options.cache)) (sym (free-counted rules freed put put-sound freed-stand))
+
+      held-there : is_held state.held page ≡ true
+      held-there = gone-held rules tables state place block slot live class_is low served is next-sound stands gone full
+
+      -- the place that the slot had is there still
+      pub gone-there : (own : Holdings) → tables_in own ≡ filled → rules.zones ≤ most_zones → IsThere own gone
+      gone-there own own_is few =
+          let there = gone-low rules tables state place block slot live class_is low served is next-sound stands gone full in
+          let bytes = freed-stand in
+          let sound = put-sound in
+          let All : List PageKind → Type 0 = λ t. AreAll kinds.is_held t page 1 in
+          record {
+            chunk = ap (λ (t : Tables). is_some (place_in t.chunks gone.address)) own_is
+                ∙ ap (λ chunks. is_some (place_in chunks gone.address)) (freed-chunks rules place waits)
+                ∙ gone-place rules tables state place block slot live class_is low served is next-sound stands gone full;
+            held = subst All (sym (ap (λ (t : Tables). t.pages) own_is ∙ freed-pages rules place waits))
+                (all-held rules tables state stands page 1 (omega arith) (λ p from to. let same : p ≡ page = omega arith in ap (is_held state.held) same ∙ held-there));
+            bytes = ap (λ (t : Tables). frames.is_held t.memory page) own_is
+                ∙ ap (λ m. frames.is_held m page) bytes.memory
+                ∙ shelf-holds put page (sound.bytes page) ∙ ap (λ held. is_held held page) put-held ∙ held-there;
+            low = omega arith;
+          }
+
+      pub gone-is_held : is_held state.held (page_at gone.address) ≡ true
+      gone-is_held = held-there
+
+    -- with what the slot had evicted
+    pub put-off-leaves : {B A : Type 0} (g : broker.Ghosts B A) (gone : Option Place) → slot_of state slot ≡ gone → (before after : B) (release : Option Move) → GivesOf g rules (freed_filled rules place (delayed_place tables slot place)) before after gone release
+        → Leaves g rules state.held state.drawn (left_tables rules (freed_filled rules place (delayed_place tables slot place)) gone) before after (evicted rules (put_off rules state slot place) gone) release
+    put-off-leaves g None empty before after release gives =
+        leaves-none g rules state.held state.drawn filled put
+        (freed-stands rules place waits next (put-off-new rules tables state place block slot live class_is low served is next-sound stands empty))
+        put-held (freed-drawn rules place next) before after release gives.0 gives.1
+    put-off-leaves g (Some gone) full before after release gives =
+        leaves-some g rules state.held state.drawn (freed gone full) put (freed-stand gone full) put-held (freed-drawn rules place next) before after gone (held-there gone full)
+        (page_goes filled gone.address) (is_surplus_by rules (freed gone full)) (goes gone full) (surplus gone full) release gives
 
 -- ---- the steps
 
@@ -58,6 +361,10 @@ pub again-seen : (rules : Rules) (state : State) (address : ℕ) (seen : Bool) �
 unfolding freed_again
 again-seen rules state address seen is =
     ap (λ b. let step : Step = record { reply = if b then reply.Fault fault.DoubleFree else reply.Done; words = 1; release = None; next = drawn_more 1 state } in step) (sym is)
+
+pub again-says : (seen : Bool) → says_no_run (if seen then reply.Fault fault.DoubleFree else reply.Done) ≡ false
+again-says true = refl
+again-says false = refl
 
 pub delay-is : (rules : Rules) (state : State) (place : Place) (slot : ℕ) (before : Option Place) → slot ≡ drawn_slot rules state → before ≡ slot_of state slot
     → delay rules state place ≡ done_with 1 (evicted rules (put_off rules (drawn_more 1 state) slot place) before)

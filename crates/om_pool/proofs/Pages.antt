@@ -1,16 +1,14 @@
 -- Lists of held pages where one comes in or goes.
-use Rattle.std.proofs.Common.{◌≡◌, ℕ, zero, suc, ◌+◌, ◌<◌, Bool, true, false, not, ◌&&◌, ◌||◌, ◌==◌, nat_eq, nat_le, nat_lt, List, [], ◌∷◌, ◌++◌, length, cond, refl, sym, ap, ◌∙◌, arith}
-use Rattle.std.specs.List.{filter, insert, range_with_len, AllByRecursion}
-use Rattle.std.proofs.lemmas.Bool.{cases_lt, eqb-true, eqb-false}
+use Rattle.std.proofs.Common.{◌≡◌, ℕ, ◌+◌, ◌<◌, Bool, true, false, not, ◌==◌, nat_eq, nat_le, nat_lt, List, [], ◌∷◌, ◌++◌, length, cond, refl, sym, ap, ◌∙◌, arith}
+use Rattle.std.specs.List.{filter, insert, AllByRecursion}
+use Rattle.std.proofs.lemmas.Bool.{cases_lt, eqb-false}
 use Rattle.std.proofs.lemmas.Bool.Decides.{nat_tests}
-use Rattle.std.proofs.lemmas.List.Folds.{list_any-append}
 use mathlib.Core.Logic.{⊎_elim}
 use Rattle.om_geom.specs.Fit.{is_in_run}
-use Rattle.om_model.specs.Pool.Runs.{Run, is_page_of}
 use Rattle.om_model.specs.Pool.State.{is_held, with_run, without_run}
 use Rattle.om_model.specs.Pool.WellFormed.{EachPair}
 use Rattle.om_model.proofs.Each.{or_none}
-use Rattle.om_pool.specs.Zones.{one_page}
+use Rattle.om_pool.specs.Asking.{one_page}
 
 single : (page other : ℕ) → is_in_run page 1 other ≡ (other == page)
 single page other = grind (arith, nat_tests)
@@ -60,52 +58,3 @@ module _ (page : ℕ) where
       let none = below-none (x ∷ xs) all in
       ap (λ ys. insert (x ∷ xs) (length ys) page) none ∙ sym (ap (λ ys. (ys ++ page ∷ []) ++ filter is_above (x ∷ xs)) none ∙ ap (λ ys. page ∷ ys) (above-all (x ∷ xs) all)))
       (cases_lt x page)
-
--- ---- which pages are held
-
-and_false : (h : Bool) → (h && false) ≡ false
-and_false true = refl
-and_false false = refl
-
-held_step : (found rest within passes here : Bool) → (found ≡ true → here ≡ passes) → within ≡ (rest && passes) → cond here (found || within) within ≡ ((found || rest) && passes)
-held_step true rest within true here same ih = rw (same refl) refl
-held_step true rest within false here same ih = rw (same refl) (ih ∙ and_false rest)
-held_step false rest within passes true same ih = ih
-held_step false rest within passes false same ih = ih
-
-held-cond : (here : Bool) (x : ℕ) (xs : List ℕ) (page : ℕ) → is_held (cond here (x ∷ xs) xs) page ≡ cond here (nat_eq page x || is_held xs page) (is_held xs page)
-held-cond true x xs page = refl
-held-cond false x xs page = refl
-
--- a filtered list has what passes the test
-held-filter : (test : ℕ → Bool) (pages : List ℕ) (page : ℕ) → is_held (filter test pages) page ≡ (is_held pages page && test page)
-held-filter test [] page = refl
-held-filter test (x ∷ xs) page =
-    held-cond (test x) x (filter test xs) page
-    ∙ held_step (nat_eq page x) (is_held xs page) (is_held (filter test xs) page) (test page) (test x)
-    (λ same. ap test (sym (eqb-true page x same)))
-    (held-filter test xs page)
-
-held-range : (first count page : ℕ) → is_held (range_with_len first count) page ≡ is_in_run first count page
-held-range first zero page = grind (arith, nat_tests)
-held-range first (suc count) page = let rest = held-range (first + 1) count page in rw rest (grind (arith, nat_tests))
-
-module _ (run : Run) (held : List ℕ) (page : ℕ) where
-  with_parts : (h : Bool) → (((h && nat_lt page run.first) || is_page_of run page) || (h && nat_le (run.first + run.count) page)) ≡ (h || is_page_of run page)
-  with_parts true = grind (arith, nat_tests)
-  with_parts false = grind (arith, nat_tests)
-
-  pub held-with_run : is_held (with_run run held) page ≡ (is_held held page || is_page_of run page)
-  held-with_run =
-      let low = filter (λ p. nat_lt p run.first) held in
-      let pages = range_with_len run.first run.count in
-      let high = filter (λ p. nat_le (run.first + run.count) p) held in
-      list_any-append (nat_eq page) (low ++ pages) high
-      ∙ ap (λ b. b || is_held high page) (list_any-append (nat_eq page) low pages)
-      ∙ ap (λ b. (b || is_held pages page) || is_held high page) (held-filter (λ p. nat_lt p run.first) held page)
-      ∙ ap (λ b. ((is_held held page && nat_lt page run.first) || b) || is_held high page) (held-range run.first run.count page)
-      ∙ ap (λ b. ((is_held held page && nat_lt page run.first) || is_page_of run page) || b) (held-filter (λ p. nat_le (run.first + run.count) p) held page)
-      ∙ with_parts (is_held held page)
-
-  pub held-without_run : is_held (without_run run held) page ≡ (is_held held page && not (is_page_of run page))
-  held-without_run = held-filter (λ p. not (is_page_of run p)) held page

@@ -1,23 +1,32 @@
 -- The core of a pool: what it keeps at every moment between two calls, and its room for one more.
-use Rattle.std.specs.Prelude.{◌≡◌, ℕ, ◌-◌, ◌^◌, ◌<◌, ◌≤◌, [], length, min, if◌then◌else◌, Option, is_some, IfSome, IsSome, vec_len, vec_capacity}
+use Rattle.std.specs.Prelude.{◌≡◌, ℕ, ◌-◌, ◌^◌, ◌<◌, ◌≤◌, [], length, min, if◌then◌else◌, Option, is_some, IfSome, IsSome}
 use Rattle.om_geom.specs.Numbers.{most_zones}
 use Rattle.om_model.specs.Data.Room.{Looks}
 use Rattle.om_model.specs.Pool.Journal.{IsLawful, state_of}
 use Rattle.om_model.specs.Pool.Rules.{canary_byte}
-use Rattle.om_pool.specs.Home.{IsHome}
-use Rattle.om_pool.specs.HoldingsView.{rules_in, state_in, HasPlace}
+use Rattle.om_model.specs.Pool.State.{State}
+use Rattle.om_broker.specs.declared.broker.Broker as broker
+use Rattle.om_pool.specs.Backing.{IsBacked}
+use Rattle.om_pool.specs.HoldingsView.{rules_in, tables_in}
 use Rattle.om_pool.specs.PoolView.{PoolView}
-use Rattle.om_pool.specs.ZonesKept.{FitsZones}
+use Rattle.om_pool.specs.Tables.{StandFor}
 use Rattle.om_pool.specs.declared.pool_core.Core.{Core}
 
 -- for how many calls room is made
 abbrev pub spare_of : Core → ℕ
 spare_of core =
-    min (min core.journal.spare (if is_some core.room then 1 else 0))
-    (min (vec_capacity core.state.held - vec_len core.state.held) (vec_capacity core.state.live - vec_len core.state.live))
+    min core.journal.spare (min (if is_some core.room then 1 else 0) core.state.chunks.spare)
 
-abbrev pub view_of : Core → PoolView
-view_of core = record { rules = rules_in core.state; state = state_in core.state; journal = core.journal; spare = spare_of core }
+-- the state that the journal leaves
+abbrev pub core_state : Core → State
+core_state core = state_of (rules_in core.state) core.journal.items
+
+abbrev pub view_of : {B : Type 0} → Core → B → PoolView B
+view_of core b = record { rules = rules_in core.state; state = core_state core; journal = core.journal; spare = spare_of core; broker = b }
+
+-- the core alone, with no broker beside it
+abbrev pub core_view : Core → PoolView (Unit {0})
+core_view core = view_of core tt
 
 -- where there is a list for looks it is empty, with room for one at each zone
 abbrev pub IsLookRoom : Option Looks → Type 0
@@ -25,15 +34,20 @@ IsLookRoom room = IfSome room (λ looks. (looks.items ≡ []) × (most_zones ≤
 
 pub record IsCore (core : Core) : Type 0 where
   pub lawful : IsLawful (rules_in core.state) core.journal.items
-  pub left : state_in core.state ≡ state_of (rules_in core.state) core.journal.items
-  pub zones : FitsZones (rules_in core.state) core.state.held.items core.journal.items core.zones
-  pub home : IsHome core.state.held.items core.home
+  pub tables : StandFor (rules_in core.state) (tables_in core.state) (core_state core)
+  pub drawn : core.state.words.place ≡ (core_state core).drawn
   pub room : IsLookRoom core.room
   pub canary : core.canary ≡ canary_byte (rules_in core.state)
+  pub some_zone : 1 ≤ core.state.zones
+  pub few_zones : core.state.zones ≤ most_zones
+
+-- the broker goes with the core
+abbrev pub IsBackedCore : {B A : Type 0} → broker.Ghosts B A → Core → B → Type 0
+IsBackedCore g core b = IsBacked g (rules_in core.state) (core_state core).held core.journal.items b
 
 -- room for what one call may add
 pub record HasRoom (core : Core) : Type 0 where
   pub short : length core.journal.items < 2 ^ 32 - 1
   pub entry : 1 ≤ core.journal.spare
-  pub place : HasPlace core.state
+  pub page : 1 ≤ core.state.chunks.spare
   pub looks : IsSome core.room

@@ -1,42 +1,75 @@
 -- A free, as the core makes it: its step, and what becomes of a place that left its slot.
-use Rattle.std.specs.Prelude.{◌≡◌, ℕ, ◌*◌, ◌<◌, true, List, Option}
+use Rattle.std.specs.Prelude.{◌≡◌, ℕ, ◌*◌, ◌<◌, ◌&&◌, Bool, true, false, if◌then◌else◌, Option, Some, None, IsSome}
+use Rattle.om_chunk.specs.Pages.{place_in}
 use Rattle.om_geom.specs.Addresses.{page_at}
 use Rattle.om_geom.specs.Numbers.{zone_pages, most_zones}
-use Rattle.om_model.specs.Pool.Free.{evicted, free}
-use Rattle.om_model.specs.Pool.Journal.{GivesUp}
-use Rattle.om_model.specs.Pool.State.{is_held}
+use Rattle.om_pages.specs.Kinds.{is_held}
+use Rattle.om_pages.specs.Tables.{AreAll}
+use Rattle.om_model.specs.Pool.Free.{free}
+use Rattle.om_model.specs.Pool.Rules.{Rules}
+use Rattle.om_model.specs.Pool.Standing.{LivePlace, standing}
+use Rattle.om_model.specs.declared.block.Block.{Block}
 use Rattle.om_model.specs.Pool.Steps.{Step}
 use Rattle.om_model.specs.declared.block.Place.{Place}
 use Rattle.om_model.specs.declared.entry.Move.{Move}
 use Rattle.om_model.specs.declared.operation.Op.TheVariants.{Free}
 use Rattle.om_model.specs.declared.operation.Who.{Who}
 use Rattle.om_model.specs.declared.reply.Reply.{Reply}
-use Rattle.om_pool.specs.CoreKept.{view_of}
-use Rattle.om_pool.specs.Home.{IsHome}
-use Rattle.om_pool.specs.HoldingsView.{rules_in, state_in}
+use Rattle.om_broker.specs.declared.broker.Broker as broker
+use Rattle.om_pool.specs.Asking.{IsGiven}
+use Rattle.om_pool.specs.CoreKept.{core_state, core_view}
+use Rattle.om_pool.specs.HoldingsView.{rules_in, tables_in, IsSameBut}
 use Rattle.om_pool.specs.PoolView.{Takes}
-use Rattle.om_pool.specs.Zones.{IsLeft}
+use Rattle.om_pool.specs.TableSteps.{freed_place, gone_page, is_surplus_by, page_goes}
+use Rattle.om_pool.specs.Tables.{Tables}
+use Rattle.om_pool.specs.Chunks.{HoldsPage}
+use Rattle.om_pool.specs.declared.holdings.Holdings.{Holdings}
 use Rattle.om_pool.specs.declared.pool_core.Core.{Core}
 
 -- a free of the address has this step
 abbrev pub FreeIs : Core → ℕ → Step → Type 0
-FreeIs core address step = free (rules_in core.state) (state_in core.state) address ≡ step
+FreeIs core address step = free (rules_in core.state) (core_state core) address ≡ step
 
 -- the call took the step of a free
 abbrev pub Frees : Core → Core → Who → ℕ → Reply → Type 0
 Frees old new who address reply =
-    Takes (view_of old) (view_of new) who (Free address) reply (λ answers. free (rules_in old.state) (state_in old.state) address)
+    Takes (core_view old) (core_view new) who (Free address) reply (λ answers. free (rules_in old.state) (core_state old) address)
 
--- the place lies on a held page of the arena
-pub record IsHeldPlace (held : List ℕ) (place : Place) : Type 0 where
-  pub held_is : is_held held (page_at place.address) ≡ true
-  pub there : page_at place.address < zone_pages * most_zones
+-- a live place of a class begins at the address
+abbrev pub IsLiveAt : Core → ℕ → Place → Type 0
+IsLiveAt core address place = (block : Block) × (standing (rules_in core.state) (core_state core) address ≡ LivePlace place block)
 
--- what becomes free stays or is let go, as the rule says; beside the state only the zones and home may have changed
-pub record Evicts (old new : Core) (place : Option Place) (release : Option Move) : Type 0 where
-  pub rules : rules_in new.state ≡ rules_in old.state
-  pub next : state_in new.state ≡ (evicted (rules_in old.state) (state_in old.state) place).next
-  pub gives_up : GivesUp (evicted (rules_in old.state) (state_in old.state) place).release release
-  pub zones : IsLeft old.zones new.zones old.state.held.items new.state.held.items release
-  pub home : IsHome new.state.held.items new.home
-  pub same : new ≡ record (record (record old { zones = new.zones }) { state = new.state }) { home = new.home }
+-- ---- what becomes of a place that left its slot
+
+-- the place is one of a chunk page, and its page is held
+pub record IsThere (own : Holdings) (place : Place) : Type 0 where
+  pub chunk : IsSome (place_in own.chunks.pages place.address)
+  pub held : AreAll is_held own.pages (page_at place.address) 1
+  pub bytes : HoldsPage own.shelf (page_at place.address)
+  pub low : page_at place.address < zone_pages * most_zones
+
+-- the tables once it is free, and its page gone where that is surplus
+abbrev pub evicted_tables : Rules → Tables → ℕ → Tables
+evicted_tables rules tables address =
+    let freed = freed_place tables address in
+    if page_goes tables address && is_surplus_by rules freed then gone_page freed (page_at address) else freed
+
+-- whether its page is let go
+abbrev pub is_let_go : Rules → Tables → ℕ → Bool
+is_let_go rules tables address = page_goes tables address && is_surplus_by rules (freed_place tables address)
+
+-- the page was given to the broker, or nothing was asked of it
+abbrev pub GivesTo : {B A : Type 0} → broker.Ghosts B A → B → B → ℕ → Bool → Option Move → Type 0
+GivesTo g before after page false release = (after ≡ before) × (release ≡ None)
+GivesTo g before after page true None = ⊥
+GivesTo g before after page true (Some move) = IsGiven g before after page move
+
+pub record IsEvicted {B A : Type 0} (g : broker.Ghosts B A) (old new : Core) (before after : B) (place : Place) (release : Option Move) : Type 0 where
+  pub tables : tables_in new.state ≡ evicted_tables (rules_in old.state) (tables_in old.state) place.address
+  pub state : IsSameBut old.state new.state
+  pub broker : GivesTo g before after (page_at place.address) (is_let_go (rules_in old.state) (tables_in old.state) place.address) release
+  pub same : new ≡ record old { state = new.state }
+
+abbrev pub Evicts : {B A : Type 0} → broker.Ghosts B A → Core → Core → B → B → Option Place → Option Move → Type 0
+Evicts g old new before after None release = (new ≡ old) × (after ≡ before) × (release ≡ None)
+Evicts g old new before after (Some place) release = IsEvicted g old new before after place release

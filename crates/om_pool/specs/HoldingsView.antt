@@ -1,26 +1,22 @@
--- What a pool's holdings say: the rules by which it answers, and its state.
-use Rattle.std.specs.Prelude.{ℕ, ◌+◌, ◌<◌, List, vec_len, vec_capacity}
-use Rattle.om_model.specs.Pool.InUse.{Use, uses}
+-- What a pool's holdings say: the rules by which it answers, and its tables.
+use Rattle.std.specs.Prelude.{◌≡◌, ℕ, ◌+◌}
 use Rattle.om_model.specs.Pool.Rules.{Rules}
-use Rattle.om_model.specs.Pool.State.{State}
 use Rattle.om_pool.specs.PoolView.{rules_by}
+use Rattle.om_pool.specs.Tables.{Tables}
 use Rattle.om_pool.specs.declared.holdings.Holdings.{Holdings}
 
 abbrev pub rules_in : Holdings → Rules
-rules_in own = rules_by own.opts own.words.source
+rules_in own = rules_by own.opts own.zones own.words.source
 
-abbrev pub state_in : Holdings → State
-state_in own = record { held = own.held.items; live = own.live.items; slots = own.slots; drawn = own.words.place; memory = own.shelf }
-
--- what is in use
-abbrev pub uses_in : Holdings → List Use
-uses_in own = uses (rules_in own) (state_in own)
+abbrev pub tables_in : Holdings → Tables
+tables_in own = record { pages = own.pages; chunks = own.chunks.pages; slots = own.slots; memory = own.shelf }
 
 -- so many more words are drawn
 abbrev pub with_drawn : ℕ → Holdings → Holdings
 with_drawn count own = record own { words = record own.words { place = own.words.place + count } }
 
--- room for a page and for a block
-pub record HasPlace (own : Holdings) : Type 0 where
-  pub page : vec_len own.held < vec_capacity own.held
-  pub block : vec_len own.live < vec_capacity own.live
+-- only the tables may be others
+pub record IsSameBut (old new : Holdings) : Type 0 where
+  pub opts : new.opts ≡ old.opts
+  pub zones : new.zones ≡ old.zones
+  pub words : new.words ≡ old.words

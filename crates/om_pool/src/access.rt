@@ -1,17 +1,19 @@
 //! Load and store of one byte.
 ghost use Rattle.std.specs.Prelude.{◌≡◌, true, if◌then◌else◌};
-ghost use Rattle.om_frame.specs.Memory.{byte_at, is_held_at};
-ghost use Rattle.om_model.specs.Pool.Access.{bar_of, barred, load, store, page_state, Plain, Shut};
-ghost use Rattle.om_model.specs.Pool.State.{written};
-ghost use Rattle.om_pool.specs.Access.{answered, Loads, Stores};
-ghost use Rattle.om_pool.specs.Chunks.{AreChunks, IsFormed};
+ghost use Rattle.om_frame.specs.Memory.{byte_at, is_held_at, with_byte};
+ghost use Rattle.om_model.specs.Pool.Access.{bar_of, Plain, Shut};
+ghost use Rattle.om_pool.specs.Access.{load_reply, store_reply, stored, Loads, Stores};
+ghost use Rattle.om_pool.specs.ByTables.{barred_by, barred_on};
 ghost use Rattle.om_pool.specs.CoreKept.{IsCore, HasRoom};
-ghost use Rattle.om_pool.specs.HoldingsView.{rules_in, state_in};
+ghost use Rattle.om_pool.specs.HoldingsView.{rules_in, tables_in, IsSameBut};
+ghost use Rattle.om_pool.specs.TableSteps.{IsTied};
+ghost use Rattle.om_pool.specs.Unasked.{IsQuiet};
 
 use crate::holdings::Holdings;
 use crate::pool_core::Core;
-use om_geom::Addr;
+use om_geom::{Addr, page_of};
 use om_model::{Drawn, Fault, Op, Reply, Segv, Who};
+use om_pages::PageKind;
 
 impl Core {
     /// Reads the byte at an address.
@@ -20,6 +22,7 @@ impl Core {
         requires room { HasRoom self.old }
         ensures kept { IsCore self.new }
         ensures taken { Loads self.old self.new who address result }
+        ensures quiet { IsQuiet self.old self.new who (Op.Load address) result }
     {
         let reply = self.state.load(address);
         self.enter_unasked(who, Op::Load { addr: address }, reply, Drawn::empty(), None);
@@ -32,6 +35,7 @@ impl Core {
         requires room { HasRoom self.old }
         ensures kept { IsCore self.new }
         ensures taken { Stores self.old self.new who address byte result }
+        ensures quiet { IsQuiet self.old self.new who (Op.Store address byte) result }
     {
         let reply = self.state.store(address, byte);
         let op = Op::Store {
@@ -45,9 +49,9 @@ impl Core {
 
 impl Holdings {
     fn load(&self, address: u64) -> Reply
-        requires { IsFormed (rules_in self.now) (state_in self.now) }
-        ensures { load (rules_in self.now) (state_in self.now) address
-            ≡ answered result (state_in self.now) }
+        requires { IsTied self.now.zones (tables_in self.now) }
+        ensures { result ≡ load_reply (tables_in self.now) address
+            (barred_by (rules_in self.now) (tables_in self.now) address) }
     {
         match self.bar(address) {
             Some(bar) => bar,
@@ -56,10 +60,12 @@ impl Holdings {
     }
 
     fn store(&mut self, address: u64, byte: u8) -> Reply
-        requires { IsFormed (rules_in self.old) (state_in self.old) }
-        ensures step { store (rules_in self.old) (state_in self.old) address byte
-            ≡ answered result (state_in self.new) }
-        ensures same { self.new ≡ record self.old { shelf = self.new.shelf } }
+        requires { IsTied self.old.zones (tables_in self.old) }
+        ensures reply { result
+            ≡ store_reply (barred_by (rules_in self.old) (tables_in self.old) address) }
+        ensures tables { tables_in self.new ≡ stored (tables_in self.old) address byte
+            (barred_by (rules_in self.old) (tables_in self.old) address) }
+        ensures same { IsSameBut self.old self.new }
     {
         if let Some(bar) = self.bar(address) {
             return bar;
@@ -70,36 +76,26 @@ impl Holdings {
 
     // What is answered where the byte at the address can't be touched.
     fn bar(&self, address: u64) -> Option<Reply>
-        requires { IsFormed (rules_in self.now) (state_in self.now) }
-        ensures { result ≡ barred (rules_in self.now) (state_in self.now) address }
+        requires { IsTied self.now.zones (tables_in self.now) }
+        ensures { result ≡ barred_by (rules_in self.now) (tables_in self.now) address }
     {
-        match self.held_page(address) {
-            Some(page) => self.bar_on(page),
+        match page_of(Addr(address), self.zones) {
+            Some(page) => self.bar_on(self.pages.find(page)),
             None => Some(Reply::Miss),
         }
     }
 
-    // The same of an address on a held page.
-    fn bar_on(&self, page: u32) -> Option<Reply>
-        requires { AreChunks (rules_in self.now) (state_in self.now) }
-        ensures { result ≡ bar_of (page_state (rules_in self.now) (state_in self.now) page) }
+    // The same of an address on a page of the kind. No byte of blocks of size 0 can be touched, nor one of a
+    // free page where unmap is on.
+    fn bar_on(&self, kind: PageKind) -> Option<Reply>
+        ensures { result ≡ barred_on (rules_in self.now) kind }
     {
-        if self.is_shut(page) {
-            Some(Reply::Fault(Fault::Segmentation(Segv::Protected)))
-        } else {
-            None
-        }
-    }
-
-    // No byte of a block of size 0 can be touched, nor one of a free page where unmap is on.
-    fn is_shut(&self, page: u32) -> bool
-        requires { AreChunks (rules_in self.now) (state_in self.now) }
-        ensures { page_state (rules_in self.now) (state_in self.now) page
-            ≡ (if result then Shut else Plain) }
-    {
-        match self.class_on(page) {
-            Some(class) => class == 0,
-            None => self.opts.unmap,
+        match kind {
+            PageKind::Absent => Some(Reply::Miss),
+            PageKind::Guard { .. } => Some(Reply::Fault(Fault::Segmentation(Segv::Guard))),
+            PageKind::Free => bar_if(self.opts.unmap),
+            PageKind::Chunk(class) => bar_if(class.0 == 0),
+            PageKind::Block { .. } => None,
         }
     }
 
@@ -112,9 +108,20 @@ impl Holdings {
 
     fn write(&mut self, address: u64, byte: u8)
         requires { is_held_at self.old.shelf address ≡ true }
-        ensures state { state_in self.new ≡ written address byte (state_in self.old) }
+        ensures memory { self.new.shelf ≡ with_byte self.old.shelf address byte }
         ensures same { self.new ≡ record self.old { shelf = self.new.shelf } }
     {
         self.shelf.part_mut(Addr(address), 1)[0] = byte;
+    }
+}
+
+// What is answered where a page is shut.
+fn bar_if(shut: bool) -> Option<Reply>
+    ensures { result ≡ bar_of (if shut then Shut else Plain) }
+{
+    if shut {
+        Some(Reply::Fault(Fault::Segmentation(Segv::Protected)))
+    } else {
+        None
     }
 }

@@ -1,14 +1,16 @@
 //! The calls of a pool.
-ghost use Rattle.std.specs.Prelude.{◌≡◌, ◌-◌, ◌^◌, ◌<◌, ◌≤◌, [], length, IfOk, IsTrue, OnOk};
+ghost use Rattle.std.specs.Prelude.{◌≡◌, ◌*◌, ◌-◌, ◌^◌, ◌<◌, ◌≤◌, [], length, IfOk, IfErr, IsTrue, OnOk};
+ghost use Rattle.om_geom.specs.Numbers.{most_zones, zone_pages};
 ghost use Rattle.om_model.specs.Pool.Access.{load, store};
 ghost use Rattle.om_model.specs.Pool.Free.{free};
 ghost use Rattle.om_model.specs.Pool.Journal.{is_served};
 ghost use Rattle.om_model.specs.Pool.Malloc.{malloc};
 ghost use Rattle.om_model.specs.Pool.Rules.{canary_byte};
 ghost use Rattle.om_model.specs.Pool.State.{opening};
-ghost use Rattle.om_pool.specs.PoolView.{rules_by, IsRun, IsAlone, IsAsBefore, IsKeptWhereDenied, Takes};
+ghost use Rattle.om_pool.specs.PoolView.{rules_by, HasMade, HasWhole, IsRun, IsAlone, IsAsBefore, IsKeptWhereDenied, Takes, UsesBroker};
 
 use crate::pool_core::Core;
+use om_broker::Broker;
 use om_geom::Addr;
 use om_model::{Journal, Op, Reply, Who};
 use om_opts::Opts;
@@ -17,38 +19,59 @@ use std::alloc::{AllocError, Global};
 use std::marker::Model;
 use std::sync::Wait;
 
-/// A pool that is alone in an arena of 64 zones. Its journal has every call, and each call is
-/// answered by the rules of malloc(3) in this profile.
+/// A pool over a broker, of which it claims its pages. Its journal has every call, and each call is answered by
+/// the rules of malloc(3) in this profile.
 #[derive(Drop)]
-pub struct Pool {
+pub struct Pool<B: Broker> {
     core: Core,
+    broker: B,
 }
 
-impl Model for Pool {
+impl<B: Broker> Model for Pool<B> {
     ghost use Rattle.om_pool.specs.PoolView.{PoolView};
-    ghost use Rattle.om_pool.specs.CoreKept.{view_of, IsCore};
+    ghost use Rattle.om_pool.specs.CoreKept.{view_of, IsBackedCore, IsCore};
 
-    ghost Value = { PoolView };
+    ghost Value = { PoolView B };
 
-    ghost view = { λ p. view_of p.core };
+    ghost view = { λ p. view_of p.core p.broker };
 
-    ghost invariant = { λ p. IsCore p.core };
+    ghost invariant = { λ p. IsCore p.core × IsBackedCore B.Broker p.core p.broker };
 }
 
-impl Pool {
-    /// A pool that holds nothing. It draws the first of the words for the canary byte.
-    pub fn start(alloc: Global, opts: Opts, words: Words) -> Result<Pool, AllocError>
-        requires { words.place ≡ 0 }
-        ensures rules { IfOk result (λ pool. pool.rules ≡ rules_by opts words.source) }
+/// There was no memory for a pool. The broker comes back.
+#[derive(Drop)]
+pub struct NoPool<B: Broker> {
+    pub broker: B,
+}
+
+impl<B: Broker> Pool<B> {
+    /// A pool that holds nothing, in an arena of so many zones. It draws the first of the words for the canary
+    /// byte.
+    pub fn start(
+        alloc: Global,
+        opts: Opts,
+        words: Words,
+        zones: u32,
+        broker: B,
+    ) -> Result<Pool<B>, NoPool<B>>
+        requires first { words.place ≡ 0 }
+        requires some_zone { 1 ≤ zones }
+        requires few_zones { zones ≤ most_zones }
+        requires arena { B.zones (B.arena broker) ≡ zones }
+        requires fresh { B.made broker [] [] }
+        ensures rules { IfOk result (λ pool. pool.rules ≡ rules_by opts zones words.source) }
         ensures state { IfOk result (λ pool. pool.state
-            ≡ opening (rules_by opts words.source)) }
+            ≡ opening (rules_by opts zones words.source)) }
         ensures entries { IfOk result (λ pool. pool.journal.items ≡ []) }
+        ensures broker { IfOk result (λ pool. pool.broker ≡ broker) }
+        ensures back { IfErr result (λ no. no.broker ≡ broker) }
         ensures run { IfOk result IsRun }
-        ensures alone { IfOk result IsAlone }
+        ensures made { IfOk result (HasMade B.Broker) }
     {
-        Ok(Pool {
-            core: Core::new(alloc, opts, words)?,
-        })
+        match Core::new(alloc, opts, words, zones) {
+            Ok(core) => Ok(Pool { core, broker }),
+            Err(_) => Err(NoPool { broker }),
+        }
     }
 
     /// Makes room for a call. After want of memory the pool is as before.
@@ -57,7 +80,8 @@ impl Pool {
         ensures room { OnOk result (1 ≤ self.new.spare) }
         ensures same { IsAsBefore self.old self.new }
         ensures run { IsRun self.new }
-        ensures alone { IsAlone self.new }
+        ensures made { HasMade B.Broker self.new }
+        ensures pages { length self.new.state.held ≤ zone_pages * self.new.rules.zones }
     {
         self.core.reserve()
     }
@@ -68,15 +92,16 @@ impl Pool {
         requires short { length self.old.journal.items < 2 ^ 32 - 1 }
         requires own { who.hop ≡ 0 }
         requires served { IsTrue (is_served self.old.rules size) }
+        requires moves { 66 ≤ B.moves_left self.old.broker }
         ensures taken { Takes self.old self.new who (Op.Malloc size site) result
             (λ answers. malloc self.old.rules self.old.state size site answers.claim) }
         ensures denied { IsKeptWhereDenied self.old self.new result }
+        ensures uses { UsesBroker B.Broker self.old self.new result }
         ensures before { IsRun self.old }
         ensures run { IsRun self.new }
-        ensures alone { IsAlone self.new }
+        ensures made { HasMade B.Broker self.new }
     {
-        let _ = rt;
-        self.core.malloc(who, size, site)
+        self.core.malloc(rt, &mut self.broker, who, size, site)
     }
 
     /// Frees an address, as free(3): a place is delayed in the slot that a word chooses, and a page
@@ -88,12 +113,12 @@ impl Pool {
         ensures taken { Takes self.old self.new who (Op.Free addr.0) result
             (λ answers. free self.old.rules self.old.state addr.0) }
         ensures denied { IsKeptWhereDenied self.old self.new result }
+        ensures uses { UsesBroker B.Broker self.old self.new result }
         ensures before { IsRun self.old }
         ensures run { IsRun self.new }
-        ensures alone { IsAlone self.new }
+        ensures made { HasMade B.Broker self.new }
     {
-        let _ = rt;
-        self.core.free(who, addr.0)
+        self.core.free(rt, &mut self.broker, who, addr.0)
     }
 
     /// Reads the byte at an address, be it in a block, between blocks, freed or on a free page. No
@@ -104,9 +129,11 @@ impl Pool {
         ensures taken { Takes self.old self.new who (Op.Load addr.0) result
             (λ answers. load self.old.rules self.old.state addr.0) }
         ensures denied { IsKeptWhereDenied self.old self.new result }
+        ensures broker { self.new.broker ≡ self.old.broker }
+        ensures uses { UsesBroker B.Broker self.old self.new result }
         ensures before { IsRun self.old }
         ensures run { IsRun self.new }
-        ensures alone { IsAlone self.new }
+        ensures made { HasMade B.Broker self.new }
     {
         self.core.load(who, addr.0)
     }
@@ -118,9 +145,11 @@ impl Pool {
         ensures taken { Takes self.old self.new who (Op.Store addr.0 byte) result
             (λ answers. store self.old.rules self.old.state addr.0 byte) }
         ensures denied { IsKeptWhereDenied self.old self.new result }
+        ensures broker { self.new.broker ≡ self.old.broker }
+        ensures uses { UsesBroker B.Broker self.old self.new result }
         ensures before { IsRun self.old }
         ensures run { IsRun self.new }
-        ensures alone { IsAlone self.new }
+        ensures made { HasMade B.Broker self.new }
     {
         self.core.store(who, addr.0, byte)
     }
@@ -129,7 +158,8 @@ impl Pool {
     pub fn journal(&self) -> &Journal
         ensures journal { result.now ≡ self.now.journal }
         ensures run { IsRun self.now }
-        ensures alone { IsAlone self.now }
+        ensures made { HasMade B.Broker self.now }
+        ensures alone { HasWhole B.Broker self.now → IsAlone self.now }
     {
         &self.core.journal
     }

@@ -1,41 +1,51 @@
 //! Free of an address, by what stands there.
-ghost use Rattle.std.specs.Prelude.{◌≡◌, ◌+◌, ◌-◌, ◌*◌, ◌%◌, ◌^◌, ◌<◌, ◌≤◌, ◌&&◌, ◌||◌, [], ◌∷◌, ◌++◌, None, length, IfSome, true, if◌then◌else◌};
+ghost use Rattle.std.specs.Prelude.{◌≡◌, ◌+◌, ◌-◌, ◌*◌, ◌%◌, ◌^◌, ◌<◌, ◌≤◌, ◌&&◌, ◌||◌, [], ◌∷◌, ◌++◌, None, length, IfSome, true, false, if◌then◌else◌};
+ghost use Rattle.om_broker.specs.Claims.{HasFrames};
+ghost use Rattle.om_frame.specs.Frames.{zero_frames};
 ghost use Rattle.om_geom.specs.Addresses.{page_at};
-ghost use Rattle.om_geom.specs.Numbers.{zone_pages, most_zones};
-ghost use Rattle.om_model.specs.Pool.Free.{delay, freed_again, is_surplus, slot_holds};
-ghost use Rattle.om_model.specs.Pool.InUse.{is_free_page};
+ghost use Rattle.om_model.specs.Pool.Free.{freed_again, slot_holds};
 ghost use Rattle.om_model.specs.Pool.Steps.{unchanged};
 ghost use Rattle.om_model.specs.declared.entry.Entry.TheVariants.{Call};
-ghost use Rattle.om_pool.specs.Chunks.{AreChunks, HasMemory};
-ghost use Rattle.om_pool.specs.CoreKept.{view_of, IsCore, HasRoom};
-ghost use Rattle.om_pool.specs.Freeing.{FreeIs, Frees, IsHeldPlace, Evicts};
-ghost use Rattle.om_pool.specs.Home.{IsHome};
-ghost use Rattle.om_pool.specs.HoldingsView.{rules_in, state_in, uses_in};
-ghost use Rattle.om_pool.specs.Standings.{IsPlace};
-ghost use Rattle.om_pool.specs.Unasked.{unasked_entry};
-ghost use Rattle.om_pool.specs.Zones.{CanMove, IsReleased};
+ghost use Rattle.om_pool.specs.CoreKept.{core_state, view_of, IsBackedCore, IsCore, HasRoom};
+ghost use Rattle.om_pool.specs.Freeing.{FreeIs, Frees, Evicts, IsLiveAt, IsThere};
+ghost use Rattle.om_pool.specs.HoldingsView.{rules_in};
+ghost use Rattle.om_pool.specs.PoolView.{says_no_run, UsesBroker};
+ghost use Rattle.om_pool.specs.Unasked.{unasked_entry, IsQuiet};
 
-use crate::holdings::slot_at;
-use crate::in_use::{page_at, slot_holds};
+use crate::holdings::{page_at, slot_at, slot_holds};
 use crate::pool_core::Core;
 use crate::standing::Standing;
+use om_broker::Broker;
 use om_model::{Drawn, Fault, Move, Op, Place, Reply, SLOT_COUNT, Who};
+use std::sync::Wait;
 
 impl Core {
     /// Frees an address, as free(3).
-    pub(crate) fn free(&mut self, who: Who, address: u64) -> Reply
+    pub(crate) fn free<R: Wait, B: Broker>(
+        &mut self,
+        rt: &R,
+        broker: &mut B,
+        who: Who,
+        address: u64,
+    ) -> Reply
         requires kept { IsCore self.old }
+        requires backed { IsBackedCore B.Broker self.old broker.old }
         requires room { HasRoom self.old }
         ensures kept { IsCore self.new }
+        ensures backed { IsBackedCore B.Broker self.new broker.new }
+        ensures uses { UsesBroker B.Broker (view_of self.old broker.old)
+            (view_of self.new broker.new) result }
         ensures taken { Frees self.old self.new who address result }
     {
         match self.state.standing(address) {
             Standing::NotHeld => self.answer(who, address, Reply::Miss),
-            Standing::FreePage => self.answer(who, address, Reply::Fault(Fault::Bogus)),
+            Standing::FreePage | Standing::InPageBlock | Standing::OnGuard => {
+                self.answer(who, address, Reply::Fault(Fault::Bogus))
+            }
             Standing::Unaligned => self.answer(who, address, Reply::Fault(Fault::ModifiedPointer)),
             Standing::FreePlace => self.answer(who, address, Reply::Fault(Fault::AlreadyFree)),
             Standing::DelayedPlace { .. } => self.free_again(who, address),
-            Standing::LivePlace { place, .. } => self.delay(who, address, place),
+            Standing::LivePlace { place, .. } => self.delay(rt, broker, who, address, place),
         }
     }
 
@@ -43,8 +53,10 @@ impl Core {
     fn answer(&mut self, who: Who, address: u64, reply: Reply) -> Reply
         requires kept { IsCore self.old }
         requires room { HasRoom self.old }
-        requires is { FreeIs self.old address (unchanged (state_in self.old.state) reply) }
+        requires is { FreeIs self.old address (unchanged (core_state self.old) reply) }
         ensures kept { IsCore self.new }
+        ensures reply { result ≡ reply }
+        ensures quiet { IsQuiet self.old self.new who (Op.Free address) result }
         ensures taken { Frees self.old self.new who address result }
     {
         self.enter_free(who, address, reply, Drawn::empty(), None);
@@ -56,8 +68,10 @@ impl Core {
         requires kept { IsCore self.old }
         requires room { HasRoom self.old }
         requires is { FreeIs self.old address
-            (freed_again (rules_in self.old.state) (state_in self.old.state) address) }
+            (freed_again (rules_in self.old.state) (core_state self.old) address) }
         ensures kept { IsCore self.new }
+        ensures reply { says_no_run result ≡ false }
+        ensures quiet { IsQuiet self.old self.new who (Op.Free address) result }
         ensures taken { Frees self.old self.new who address result }
     {
         let word = self.state.draw();
@@ -69,50 +83,50 @@ impl Core {
 
     // A live place is put off: it enters the slot that a word chooses, and what the slot had is
     // evicted.
-    fn delay(&mut self, who: Who, address: u64, place: Place) -> Reply
+    fn delay<R: Wait, B: Broker>(
+        &mut self,
+        rt: &R,
+        broker: &mut B,
+        who: Who,
+        address: u64,
+        place: Place,
+    ) -> Reply
         requires kept { IsCore self.old }
+        requires backed { IsBackedCore B.Broker self.old broker.old }
         requires room { HasRoom self.old }
-        requires place { IsPlace self.old.state.shelf place }
-        requires is { FreeIs self.old address
-            (delay (rules_in self.old.state) (state_in self.old.state) place) }
+        requires live { IsLiveAt self.old address place }
         ensures kept { IsCore self.new }
+        ensures backed { IsBackedCore B.Broker self.new broker.new }
+        ensures uses { UsesBroker B.Broker (view_of self.old broker.old)
+            (view_of self.new broker.new) result }
         ensures taken { Frees self.old self.new who address result }
     {
         let word = self.state.draw();
-        let evicted = self.state.put_off(place, word as usize % SLOT_COUNT);
-        let release = self.evict(evicted);
+        let before = self.state.delay(place, word as usize % SLOT_COUNT);
+        self.state.fill_freed(place);
+        let release = self.evict(rt, broker, before);
         self.enter_free(who, address, Reply::Done, Drawn::one(word), release);
         Reply::Done
     }
 
     // The place left its slot. Where its page became free and is surplus, it is let go.
-    fn evict(&mut self, evicted: Option<Place>) -> Option<Move>
-        requires chunks { AreChunks (rules_in self.old.state) (state_in self.old.state) }
-        requires memory { HasMemory (state_in self.old.state) }
-        requires home { IsHome self.old.state.held.items self.old.home }
-        requires held { IfSome evicted (IsHeldPlace self.old.state.held.items) }
-        requires zones { length self.old.zones.bits ≡ most_zones }
-        requires versions { CanMove self.old.zones }
-        ensures { Evicts self.old self.new evicted result }
+    fn evict<R: Wait, B: Broker>(
+        &mut self,
+        rt: &R,
+        broker: &mut B,
+        before: Option<Place>,
+    ) -> Option<Move>
+        requires place { IfSome before (IsThere self.old.state) }
+        requires has { IfSome before (λ place.
+            HasFrames (B.made broker.old) (zero_frames (page_at place.address) 1)) }
+        ensures { Evicts B.Broker self.old self.new broker.old broker.new before result }
     {
-        let place = evicted?;
-        let page = page_at(place.address) as u32;
-        if self.becomes_surplus(page) {
-            let release = self.zones.release(page, 1);
-            self.state.leave(page, &mut self.home);
-            Some(release)
-        } else {
-            None
+        let place = before?;
+        if self.state.set_free(place.address) && self.state.is_surplus() {
+            let frames = self.state.leave(page_at(place.address) as u32);
+            return Some(broker.release(rt, frames));
         }
-    }
-
-    fn becomes_surplus(&self, page: u32) -> bool
-        requires { AreChunks (rules_in self.now.state) (state_in self.now.state) }
-        ensures { result
-            ≡ (is_free_page (uses_in self.now.state) page
-            && is_surplus (rules_in self.now.state) (state_in self.now.state)) }
-    {
-        self.state.is_free_page(page) && self.state.is_surplus()
+        None
     }
 
     fn enter_free(

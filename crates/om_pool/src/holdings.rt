@@ -1,69 +1,83 @@
-//! What a pool holds: its state, with the options and the source of its words.
-ghost use Rattle.std.specs.Prelude.{◌≡◌, ◌+◌, ◌*◌, ◌%◌, ◌<◌, ◌≤◌, ◌^◌, ◌==◌, true, false, not, IsTrue, [], ◌∷◌, ◌++◌, length, replicate, vec_len, vec_capacity, Some, None, OnOk, IfOk, filter, nat_lt, slice_index_or, slice_set};
+//! What a pool holds: the tables that stand for its state, with the options and the source of its words.
+ghost use Rattle.std.specs.Prelude.{◌≡◌, ◌+◌, ◌*◌, ◌<◌, ◌≤◌, ◌^◌, true, IsTrue, IsSome, IfSome, length, replicate, Some, None, OnOk, IfOk, slice_index_or};
+ghost use Rattle.om_chunk.specs.Pages as chunks;
+ghost use Rattle.om_chunk.specs.Picks.{place_on, IsFreeOn};
+ghost use Rattle.om_frame.specs.Frames.{zero_frames};
 ghost use Rattle.om_frame.specs.Memory.{no_pages};
-ghost use Rattle.om_geom.specs.Classes.{is_class};
+ghost use Rattle.om_geom.specs.Addresses.{page_at};
+ghost use Rattle.om_geom.specs.Classes.{is_class, places_of};
 ghost use Rattle.om_geom.specs.Numbers.{zone_pages, most_zones};
-ghost use Rattle.om_model.specs.Pool.Free.{put_off, slot_of};
-ghost use Rattle.om_model.specs.Pool.Malloc.{placed_on};
-ghost use Rattle.om_model.specs.Pool.Rules.{size_class, word_at};
-ghost use Rattle.om_model.specs.Pool.State.{State, slot_count, is_held, with_pages, without_pages, without_run};
-ghost use Rattle.om_model.specs.Pool.WellFormed.{EachPair};
-ghost use Rattle.om_pool.specs.Chunks.{AreChunks, HasMemory, HoldsPage};
-ghost use Rattle.om_pool.specs.Home.{IsHome};
-ghost use Rattle.om_pool.specs.HoldingsView.{rules_in, state_in, with_drawn, HasPlace};
+ghost use Rattle.om_model.specs.Pool.Free.{slot_holds};
+ghost use Rattle.om_model.specs.Pool.Picks.{place_address};
+ghost use Rattle.om_model.specs.Pool.Rules.{word_at};
+ghost use Rattle.om_pages.specs.FreeRuns.{lowest_run};
+ghost use Rattle.om_model.specs.Pool.State.{slot_count};
+ghost use Rattle.om_pages.specs.Kinds.{is_absent, is_free, is_held};
+ghost use Rattle.om_pages.specs.Tables as pages;
+ghost use Rattle.om_pool.specs.Chunks.{HoldsPage};
+ghost use Rattle.om_pool.specs.HoldingsView.{rules_in, tables_in, with_drawn, IsSameBut};
 ghost use Rattle.om_pool.specs.PoolView.{rules_by};
-ghost use Rattle.om_pool.specs.Standings.{IsPlace};
-ghost use Rattle.om_pool.specs.Zones.{one_page};
+ghost use Rattle.om_pool.specs.TableSteps.{claimed_page, delayed_place, fresh_page, freed_place, gone_page, is_surplus_by, live_place, page_goes, FreshPlace, IsTied, OwnPlace};
 
-use crate::home::move_frame;
-use crate::picks::place_start;
-use om_frame::Shelf;
-use om_geom::MOST_ZONES;
-use om_model::{Block, Place, SLOT_COUNT};
+use om_chunk::{ChunkPages, Picked};
+use om_frame::{Bundle, Shelf};
+use om_geom::{Addr, Class, FIRST_ADDRESS, PAGE_SIZE, Page, addr_of, stride};
+use om_model::{Place, SLOT_COUNT};
 use om_opts::Opts;
+use om_pages::PageTable;
 use om_words::Words;
 use std::alloc::{AllocError, Global};
 
-/// The rules and the state of a pool. The held pages ascend, and the shelf has their bytes; a slot
-/// has a delayed place or nothing.
+/// The rules and the tables of a pool. The page table says what each page is, the chunk pages what each
+/// of their places has, and the shelf has the bytes of the held pages; a slot has a delayed place or nothing.
 #[derive(Drop)]
 pub(crate) struct Holdings {
     pub(crate) opts: Opts,
+    pub(crate) zones: u32,
     pub(crate) words: Words,
-    pub(crate) held: Vec<u32>,
-    pub(crate) live: Vec<Block>,
+    pub(crate) pages: PageTable,
+    pub(crate) chunks: ChunkPages,
     pub(crate) slots: [Option<Place>; SLOT_COUNT],
     pub(crate) shelf: Shelf,
 }
 
 impl Holdings {
     /// Nothing is held, and no more words are drawn than were.
-    pub(crate) fn new(alloc: Global, opts: Opts, words: Words) -> Result<Holdings, AllocError>
-        ensures rules { IfOk result (λ own. rules_in own ≡ rules_by opts words.source) }
-        ensures held { IfOk result (λ own. own.held.items ≡ []) }
-        ensures live { IfOk result (λ own. own.live.items ≡ []) }
+    pub(crate) fn new(
+        alloc: Global,
+        opts: Opts,
+        words: Words,
+        zones: u32,
+    ) -> Result<Holdings, AllocError>
+        requires some_zone { 1 ≤ zones }
+        requires few_zones { zones ≤ most_zones }
+        ensures rules { IfOk result (λ own. rules_in own ≡ rules_by opts zones words.source) }
+        ensures zones { IfOk result (λ own. own.zones ≡ zones) }
+        ensures pages { IfOk result (λ own. own.pages ≡ pages.no_pages zones) }
+        ensures chunks { IfOk result (λ own. own.chunks.pages ≡ chunks.no_pages zones) }
         ensures slots { IfOk result (λ own. own.slots ≡ replicate slot_count None) }
         ensures drawn { IfOk result (λ own. own.words.place ≡ words.place) }
-        ensures memory { IfOk result (λ own. own.shelf ≡ no_pages most_zones) }
+        ensures memory { IfOk result (λ own. own.shelf ≡ no_pages zones) }
     {
         Ok(Holdings {
             opts,
+            zones,
             words,
-            held: Vec::new(alloc),
-            live: Vec::new(alloc),
+            pages: PageTable::new(alloc, zones)?,
+            chunks: ChunkPages::new(alloc, zones)?,
             slots: [None; SLOT_COUNT],
-            shelf: Shelf::new(alloc, MOST_ZONES)?,
+            shelf: Shelf::new(alloc, zones)?,
         })
     }
 
-    /// Makes room for a page and a block.
+    /// Makes room for a chunk page.
     pub(crate) fn reserve(&mut self) -> Result<(), AllocError>
-        ensures room { OnOk result (HasPlace self.new) }
+        ensures room { OnOk result (1 ≤ self.new.chunks.spare) }
         ensures rules { rules_in self.new ≡ rules_in self.old }
-        ensures state { state_in self.new ≡ state_in self.old }
+        ensures tables { tables_in self.new ≡ tables_in self.old }
+        ensures drawn { self.new.words ≡ self.old.words }
     {
-        self.held.reserve(1)?;
-        self.live.reserve(1)
+        self.chunks.reserve()
     }
 
     /// The next word of the pool.
@@ -75,104 +89,164 @@ impl Holdings {
         self.words.draw()
     }
 
-    /// Adds a page to the held ones, which ascend, with its frame from home.
-    pub(crate) fn hold(&mut self, page: u32, home: &mut Shelf)
-        requires room { vec_len self.old.held < vec_capacity self.old.held }
-        requires ascends { EachPair ◌<◌ self.old.held.items }
-        requires fresh { is_held self.old.held.items page ≡ false }
-        requires there { page < zone_pages * most_zones }
-        requires memory { HasMemory (state_in self.old) }
-        requires home { IsHome self.old.held.items home.old }
-        ensures state { state_in self.new ≡ with_pages (one_page page) (state_in self.old) }
-        ensures home { IsHome self.new.held.items home.new }
-        ensures held { HoldsPage self.new.shelf page }
-        ensures same { self.new
-            ≡ record (record self.old { held = self.new.held }) { shelf = self.new.shelf } }
+    /// The place that the pool itself has for a chunk: on the open page that the first word chooses, or
+    /// else on the lowest free page, which becomes a chunk page. The second word chooses the place.
+    pub(crate) fn own_place(&mut self, class: Class, first: u32, second: u32) -> Option<Picked>
+        requires class { IsTrue (is_class class.0) }
+        requires room { 1 ≤ self.old.chunks.spare }
+        requires tied { IsTied self.old.zones (tables_in self.old) }
+        ensures found { OwnPlace (tables_in self.old) (tables_in self.new) class.0 first second
+            result }
+        ensures room { result ≡ None → self.old.chunks.spare ≤ self.new.chunks.spare }
+        ensures free { IfSome result
+            (λ found. IsFreeOn self.new.chunks.pages class.0 found.page.0 found.place) }
+        ensures same { IsSameBut self.old self.new }
     {
-        move_frame(page, home, &mut self.shelf);
-        let before = count_below(&self.held, page);
-        match self.held.insert(before, page) {
-            Ok(()) => {}
-            Err(_) => unreachable!(),
+        match self.chunks.pick(class, first, second) {
+            Some(found) => Some(found),
+            None => self.fresh_place(class, second),
         }
     }
 
-    /// Takes a page out of the held ones. Its frame goes home.
-    pub(crate) fn leave(&mut self, page: u32, home: &mut Shelf)
-        requires held { is_held self.old.held.items page ≡ true }
-        requires there { page < zone_pages * most_zones }
-        requires memory { HasMemory (state_in self.old) }
-        requires home { IsHome self.old.held.items home.old }
-        ensures state { state_in self.new ≡ without_pages (one_page page) (state_in self.old) }
-        ensures home { IsHome self.new.held.items home.new }
-        ensures same { self.new
-            ≡ record (record self.old { held = self.new.held }) { shelf = self.new.shelf } }
+    fn fresh_place(&mut self, class: Class, word: u32) -> Option<Picked>
+        requires class { IsTrue (is_class class.0) }
+        requires room { 1 ≤ self.old.chunks.spare }
+        requires tied { IsTied self.old.zones (tables_in self.old) }
+        ensures found { FreshPlace (tables_in self.old) (tables_in self.new) class.0 word result
+            (lowest_run self.old.pages 1) }
+        ensures room { result ≡ None → self.old.chunks.spare ≤ self.new.chunks.spare }
+        ensures free { IfSome result
+            (λ found. IsFreeOn self.new.chunks.pages class.0 found.page.0 found.place) }
+        ensures same { IsSameBut self.old self.new }
     {
-        move_frame(page, &mut self.shelf, home);
-        remove_page(&mut self.held, page);
+        let page = self.pages.take_run(1)?;
+        Some(self.open_page(page, class, word))
     }
 
-    /// Adds a live chunk on the page, at the free place that the word chooses. Gives its address.
-    pub(crate) fn place_on(&mut self, page: u32, class: u32, word: u32, size: u64, site: u64) -> u64
-        requires chunks { AreChunks (rules_in self.old) (state_in self.old) }
-        requires page { page < zone_pages * most_zones }
-        requires held { HoldsPage self.old.shelf page }
-        requires is { IsTrue (is_class class) }
-        requires class { size_class (rules_in self.old) size ≡ Some class }
-        requires room { vec_len self.old.live < vec_capacity self.old.live }
-        ensures placed { placed_on (rules_in self.old) (state_in self.old) page word size site
-            ≡ record { address = Some result; next = state_in self.new } }
-        ensures held { self.new.held.items ≡ self.old.held.items }
-        ensures rules { rules_in self.new ≡ rules_in self.old }
+    /// Makes a claimed page, whose frame comes with it, a chunk page, and picks a place there.
+    pub(crate) fn claimed_place(
+        &mut self,
+        page: Page,
+        frames: Bundle,
+        class: Class,
+        word: u32,
+    ) -> Picked
+        requires class { IsTrue (is_class class.0) }
+        requires room { 1 ≤ self.old.chunks.spare }
+        requires tied { IsTied self.old.zones (tables_in self.old) }
+        requires there { page.0 < zone_pages * self.old.zones }
+        requires new { is_absent (pages.kind_of self.old.pages page.0) ≡ true }
+        requires frames { frames ≡ zero_frames page.0 1 }
+        ensures tables { tables_in self.new
+            ≡ fresh_page (claimed_page (tables_in self.old) page.0) page.0 class.0 }
+        ensures page { result.page ≡ page }
+        ensures place { place_on self.new.chunks.pages page.0 word ≡ Some result.place }
+        ensures free { IsFreeOn self.new.chunks.pages class.0 page.0 result.place }
+        ensures same { IsSameBut self.old self.new }
     {
-        let place = self.picked_place(page, class, word).unwrap_or(0);
-        let address = place_start(page, class, place);
-        let block = Block {
-            address,
-            size,
-            site,
-        };
-        self.live.push_reserved(block);
-        self.fill_fresh(block, class);
+        self.pages.add_run(page, 1);
+        self.shelf.add(frames);
+        self.open_page(page, class, word)
+    }
+
+    // Makes a held page on which nothing lies a chunk page, and picks a place there.
+    fn open_page(&mut self, page: Page, class: Class, word: u32) -> Picked
+        requires class { IsTrue (is_class class.0) }
+        requires room { 1 ≤ self.old.chunks.spare }
+        requires held { pages.AreAll is_held self.old.pages page.0 1 }
+        requires there { page.0 < length self.old.chunks.pages }
+        requires none { chunks.page_in self.old.chunks.pages page.0 ≡ None }
+        ensures tables { tables_in self.new ≡ fresh_page (tables_in self.old) page.0 class.0 }
+        ensures page { result.page ≡ page }
+        ensures place { place_on self.new.chunks.pages page.0 word ≡ Some result.place }
+        ensures free { IsFreeOn self.new.chunks.pages class.0 page.0 result.place }
+        ensures same { IsSameBut self.old self.new }
+    {
+        self.pages.set_chunk(page, class);
+        self.chunks.add_page(page, class);
+        let place = self.chunks.pick_on(page, word);
+        Picked { page, place }
+    }
+
+    /// Puts a block on the place that was picked. Gives its address.
+    pub(crate) fn settle(&mut self, picked: Picked, class: Class, size: u64, site: u64) -> u64
+        requires class { IsTrue (is_class class.0) }
+        requires page { picked.page.0 < zone_pages * most_zones }
+        requires free { IsFreeOn self.old.chunks.pages class.0 picked.page.0 picked.place }
+        ensures address { result ≡ place_address picked.page.0 class.0 picked.place }
+        ensures tables { tables_in self.new ≡ live_place (tables_in self.old) result size site }
+        ensures same { IsSameBut self.old self.new }
+    {
+        let address = place_start(picked, class);
+        self.chunks.set_live(Addr(address), size, site);
         address
     }
 
-    /// Moves the place from the live blocks into the slot, and gives what the slot had.
-    pub(crate) fn put_off(&mut self, place: Place, slot: usize) -> Option<Place>
+    /// A live place waits in the slot, and what the slot had is given back.
+    pub(crate) fn delay(&mut self, place: Place, slot: usize) -> Option<Place>
         requires slot { slot < slot_count }
-        requires place { IsPlace self.old.shelf place }
-        ensures evicted { result ≡ slot_of (state_in self.old) slot }
-        ensures state { state_in self.new
-            ≡ put_off (rules_in self.old) (state_in self.old) slot place }
-        ensures rules { rules_in self.new ≡ rules_in self.old }
+        requires place { IsSome (chunks.place_in self.old.chunks.pages place.address) }
+        ensures before { result ≡ slice_index_or self.old.slots slot None }
+        ensures tables { tables_in self.new ≡ delayed_place (tables_in self.old) slot place }
+        ensures same { IsSameBut self.old self.new }
     {
-        remove_block(&mut self.live, place.address);
-        let evicted = slot_at(&self.slots, slot);
+        let before = slot_at(&self.slots, slot);
         self.slots[slot] = Some(place);
-        self.fill_freed(place);
-        evicted
+        self.chunks.set_delayed(Addr(place.address));
+        before
+    }
+
+    /// Makes a place free, and its page where it was the last one there. Whether it was.
+    pub(crate) fn set_free(&mut self, address: u64) -> bool
+        requires place { IsSome (chunks.place_in self.old.chunks.pages address) }
+        requires held { pages.AreAll is_held self.old.pages (page_at address) 1 }
+        requires low { page_at address < zone_pages * most_zones }
+        ensures goes { result ≡ page_goes (tables_in self.old) address }
+        ensures tables { tables_in self.new ≡ freed_place (tables_in self.old) address }
+        ensures same { IsSameBut self.old self.new }
+    {
+        let last = self.chunks.set_free(Addr(address));
+        if last {
+            self.pages.give_run(Page(page_at(address) as u32), 1);
+        }
+        last
+    }
+
+    /// Whether more pages are free than the pool keeps.
+    pub(crate) fn is_surplus(&self) -> bool
+        ensures { result ≡ is_surplus_by (rules_in self.now) (tables_in self.now) }
+    {
+        self.pages.free_count() > self.opts.cache
+    }
+
+    /// Takes a free page out, and gives its frame.
+    pub(crate) fn leave(&mut self, page: u32) -> Bundle
+        requires free { pages.AreAll is_free self.old.pages page 1 }
+        requires held { HoldsPage self.old.shelf page }
+        ensures frames { result ≡ zero_frames page 1 }
+        ensures tables { tables_in self.new ≡ gone_page (tables_in self.old) page }
+        ensures same { IsSameBut self.old self.new }
+    {
+        self.pages.drop_run(Page(page), 1);
+        self.shelf.remove(Page(page), 1)
     }
 }
 
-// How many of the pages are below this one.
-fn count_below(pages: &[u32], page: u32) -> usize
-    ensures count { result ≡ length (filter (λ other. nat_lt other page) pages.now) }
-    ensures within { result ≤ length pages.now }
+// The first byte of a place.
+fn place_start(picked: Picked, class: Class) -> u64
+    requires page { picked.page.0 < zone_pages * most_zones }
+    requires class { IsTrue (is_class class.0) }
+    requires place { picked.place < places_of class.0 }
+    ensures { result ≡ place_address picked.page.0 class.0 picked.place }
 {
-    pages.iter().filter(|other| **other < page).count()
+    addr_of(picked.page).0 + u64::from(picked.place) * u64::from(stride(class))
 }
 
-fn remove_page(pages: &mut Vec<u32>, page: u32)
-    ensures { pages.new.items ≡ without_run (one_page page) pages.old.items }
+/// The page on which an address of the arena lies.
+pub(crate) fn page_at(address: u64) -> u64
+    ensures { result ≡ page_at address }
 {
-    pages.retain(|other| *other != page);
-}
-
-// Takes the block that begins at the address out of the live ones.
-fn remove_block(live: &mut Vec<Block>, address: u64)
-    ensures { live.new.items ≡ filter (λ block. not (block.address == address)) live.old.items }
-{
-    live.retain(|block| block.address != address);
+    address.saturating_sub(FIRST_ADDRESS) / u64::from(PAGE_SIZE)
 }
 
 /// What a slot has.
@@ -181,4 +255,14 @@ pub(crate) fn slot_at(slots: &[Option<Place>], slot: usize) -> Option<Place>
     ensures { result ≡ slice_index_or slots.now slot None }
 {
     slots[slot]
+}
+
+/// Whether the slot has the place that begins at the address.
+pub(crate) fn slot_holds(slot: &Option<Place>, address: u64) -> bool
+    ensures { result ≡ slot_holds slot.now address }
+{
+    match slot {
+        Some(place) => place.address == address,
+        None => false,
+    }
 }

@@ -5,16 +5,12 @@ mod access;
 mod calls;
 mod free;
 mod holdings;
-mod home;
-mod in_use;
 mod junk;
 mod malloc;
-mod picks;
 mod pool_core;
 mod standing;
-mod zones;
 
-pub use calls::Pool;
+pub use calls::{NoPool, Pool};
 
 #[cfg(test)]
 mod tests;

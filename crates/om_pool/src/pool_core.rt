@@ -1,15 +1,13 @@
-//! The core of a pool: what it holds, beside its zones and its journal.
+//! The core of a pool: what it holds, and its journal.
 ghost use Rattle.std.specs.Prelude.{◌≡◌, ◌-◌, ◌^◌, ◌<◌, ◌≤◌, [], ◌∷◌, ◌++◌, length, IfOk, OnOk};
+ghost use Rattle.om_geom.specs.Numbers.{most_zones};
 ghost use Rattle.om_model.specs.Pool.State.{opening};
-ghost use Rattle.om_pool.specs.CoreKept.{IsCore, HasRoom};
-ghost use Rattle.om_pool.specs.HoldingsView.{rules_in, state_in};
+ghost use Rattle.om_pool.specs.CoreKept.{core_state, IsCore, HasRoom};
+ghost use Rattle.om_pool.specs.HoldingsView.{rules_in};
 ghost use Rattle.om_pool.specs.PoolView.{rules_by};
 ghost use Rattle.om_pool.specs.Unasked.{unasked_entry};
 
 use crate::holdings::Holdings;
-use crate::home::all_frames;
-use crate::zones::Zones;
-use om_frame::Shelf;
 use om_geom::MOST_ZONES;
 use om_model::{CallEntry, Drawn, Entry, Journal, LookList, Move, Op, Reply, Who};
 use om_opts::Opts;
@@ -20,11 +18,8 @@ use std::alloc::{AllocError, Global};
 pub(crate) struct Core {
     pub(crate) alloc: Global,
     pub(crate) state: Holdings,
-    /// The frames of the pages that aren't held.
-    pub(crate) home: Shelf,
     /// What the first word gave.
     pub(crate) canary: u8,
-    pub(crate) zones: Zones,
     /// An empty list with room for a look at each zone, until a search fills it.
     pub(crate) room: Option<LookList>,
     pub(crate) journal: Journal,
@@ -32,21 +27,27 @@ pub(crate) struct Core {
 
 impl Core {
     /// A core that holds nothing. The canary byte takes the first word.
-    pub(crate) fn new(alloc: Global, opts: Opts, mut words: Words) -> Result<Core, AllocError>
-        requires { words.place ≡ 0 }
+    pub(crate) fn new(
+        alloc: Global,
+        opts: Opts,
+        mut words: Words,
+        zones: u32,
+    ) -> Result<Core, AllocError>
+        requires first { words.place ≡ 0 }
+        requires some_zone { 1 ≤ zones }
+        requires few_zones { zones ≤ most_zones }
         ensures kept { IfOk result IsCore }
-        ensures rules { IfOk result (λ core. rules_in core.state ≡ rules_by opts words.source) }
-        ensures state { IfOk result (λ core. state_in core.state
-            ≡ opening (rules_by opts words.source)) }
+        ensures rules { IfOk result (λ core. rules_in core.state
+            ≡ rules_by opts zones words.source) }
+        ensures state { IfOk result (λ core. core_state core
+            ≡ opening (rules_by opts zones words.source)) }
         ensures entries { IfOk result (λ core. core.journal.items ≡ []) }
     {
         let word = words.draw();
         Ok(Core {
             alloc,
-            state: Holdings::new(alloc, opts, words)?,
-            home: all_frames(alloc)?,
+            state: Holdings::new(alloc, opts, words, zones)?,
             canary: (word % 255 + 1) as u8,
-            zones: Zones::new(alloc, MOST_ZONES)?,
             room: None,
             journal: Journal::new(alloc),
         })
@@ -59,7 +60,6 @@ impl Core {
         ensures kept { IsCore self.new }
         ensures room { OnOk result (HasRoom self.new) }
         ensures rules { rules_in self.new.state ≡ rules_in self.old.state }
-        ensures state { state_in self.new.state ≡ state_in self.old.state }
         ensures entries { self.new.journal.items ≡ self.old.journal.items }
     {
         self.journal.reserve()?;

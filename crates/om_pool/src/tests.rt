@@ -5,13 +5,15 @@ mod lawful;
 mod trial;
 
 use super::*;
+use om_geom::MOST_ZONES;
 use om_model::{Entry, Fault, Journal, Move, Reply, Segv, slow};
 use om_opts::Opts;
+use om_words::Words;
 use std::alloc::{AllocError, Global};
 use std::process::Abort;
 use std::sync::Wait;
 use std::test::Fail;
-use trial::{Call, Trial, answers, answers_all, pool_over};
+use trial::{Call, Trial, answers, answers_all, pool_in, pool_over};
 
 // A pool that draws one word again and again.
 fn pool_of(alloc: Global, opts: Opts, word: u32) -> Result<Trial, Fail> {
@@ -37,6 +39,28 @@ fn words_choose_page_and_place(rt: HostRuntime) -> Result<(), Fail> {
     assert_eq!(rt; pool.canary(), 6);
     answers(&rt, &mut pool, Call::Malloc(100), Reply::Block(0x15280))?;
     assert_eq!(rt; slow::picked_place(&[], 5, 128, 5), Some(5));
+    Ok(())
+}
+
+fn first_block_in<R: Abort + Wait>(
+    rt: &R,
+    alloc: Global,
+    zones: u32,
+    address: u64,
+) -> Result<(), Fail> {
+    assert!(rt; 1 <= zones && zones <= MOST_ZONES);
+    let words = Words::listed(vec![in alloc; 101]?)?;
+    let mut pool = pool_in(alloc, Opts::default(), words, zones)?;
+    answers(rt, &mut pool, Call::Malloc(100), Reply::Block(address))?;
+    Ok(())
+}
+
+// The word 101 names zone 3, counted round, and page 5 there.
+#[test]
+fn zones_are_counted_round(rt: HostRuntime) -> Result<(), Fail> {
+    for (zones, address) in [(1, 0x15280), (2, 0x35280), (64, 0x75280)] {
+        first_block_in(&rt, rt.alloc(), zones, address)?;
+    }
     Ok(())
 }
 

@@ -1,6 +1,7 @@
 -- A written run, and the answers of the parts of the program as answers of the whole.
 use Rattle.std.proofs.Common.{◌≡◌, ℕ, zero, suc, ◌<◌, ◌≤◌, inl, inr, Bool, true, false, ◌||◌, Option, Some, None, IfSome, IsSome, Result, Ok, Err, List, [], ◌∷◌, ◌++◌, length, refl, sym, subst, ◌∙◌, ap, arith, append-nil}
 use Rattle.std.specs.List.{slice_get, slice_index_or, list_any}
+use Rattle.om_broker.specs.Lone.{Lone}
 use Rattle.om_io.specs.Sink.{Writes}
 use Rattle.om_io.specs.Source.{input_limit}
 use Rattle.om_io.specs.declared.sink.WriteStop.{WriteStop}
@@ -62,7 +63,7 @@ apart-alone : (head : Head) (entries : List Entry) → IsLawful (rules_of head 0
 apart-alone head entries lawful zero before rest below cut = state_of-well_formed (rules_of head 0) before rest (subst (λ es. IsLawful (rules_of head 0) es) cut lawful)
 apart-alone head entries lawful (suc pool) before rest below cut = absurd (omega arith)
 
-headline-alone : (head : Head) (script : ScriptText) (pool : PoolView) (outcomes : List Outcome) → IsHead head → IsScript script → RanAlone head script pool outcomes → IsRun pool → IsAlone pool →
+headline-alone : (head : Head) (script : ScriptText) (pool : PoolView Lone) (outcomes : List Outcome) → IsHead head → IsScript script → RanAlone head script pool outcomes → IsRun pool → IsAlone pool →
     IsInRange (content head pool.journal.items script.name outcomes) → IsHeadline head (script ∷ []) (content head pool.journal.items script.name outcomes)
 headline-alone head script pool outcomes form is ran run alone numbers =
     let one = form.pools in
@@ -87,7 +88,7 @@ headline-alone head script pool outcomes form is ran run alone numbers =
     }
 
 -- what is known of a script that ran on a pool of its own, and of what is told of it
-pub record IsRan (head : Head) (script : ScriptText) (pool : PoolView) (outcomes : List Outcome) (faulted : Bool) (name : List ℕ) : Type 0 where
+pub record IsRan (head : Head) (script : ScriptText) (pool : PoolView Lone) (outcomes : List Outcome) (faulted : Bool) (name : List ℕ) : Type 0 where
   pub head_form : IsHead head
   pub script_form : IsScript script
   pub ran : RanAlone head script pool outcomes
@@ -96,7 +97,7 @@ pub record IsRan (head : Head) (script : ScriptText) (pool : PoolView) (outcomes
   pub faulted_is : faulted ≡ list_any is_fault outcomes
   pub named : name ≡ script.name
 
-run-of : (head : Head) (script : ScriptText) (pool : PoolView) (outcomes : List Outcome) (faulted : Bool) (name : List ℕ) →
+run-of : (head : Head) (script : ScriptText) (pool : PoolView Lone) (outcomes : List Outcome) (faulted : Bool) (name : List ℕ) →
     IsRan head script pool outcomes faulted name → IsRunOf head script faulted (content head pool.journal.items name outcomes)
 run-of head script pool outcomes faulted name is =
     let here = subst (λ n. IsInRange (content head pool.journal.items n outcomes)) is.named is.numbers in
@@ -107,7 +108,7 @@ run-of head script pool outcomes faulted name is =
     or_false true = refl
     or_false false = refl
 
-pub tells-run : (head : Head) (script : ScriptText) (pool : PoolView) (outcomes : List Outcome) (faulted : Bool) (name : List ℕ) →
+pub tells-run : (head : Head) (script : ScriptText) (pool : PoolView Lone) (outcomes : List Outcome) (faulted : Bool) (name : List ℕ) →
     IsRan head script pool outcomes faulted name → TellsRunOf head script faulted (text_of (content head pool.journal.items name outcomes))
 tells-run head script pool outcomes faulted name is = (content head pool.journal.items name outcomes, run-of head script pool outcomes faulted name is, refl)
 

@@ -1,11 +1,11 @@
 -- Lines that are written one by one, and the whole output in the pieces in which it is written.
-use Rattle.std.proofs.Common.{◌≡◌, ℕ, ◌+◌, Option, Some, List, [], ◌∷◌, ◌++◌, length, map, take, drop, Result, Ok, Err, refl, sym, subst, ◌∙◌, ap, append_assoc, append-nil, codes}
+use Rattle.std.proofs.Common.{◌≡◌, ℕ, ◌+◌, Option, Some, List, [], ◌∷◌, ◌++◌, length, map, take, drop, Result, Ok, Err, sym, subst, ◌∙◌, ap, append_assoc, append-nil, codes}
 use Rattle.std.specs.List.{flat_map, slice_get, enumerate_from, position}
 use Rattle.std.specs.Fmt.{decimal}
 use Rattle.std.proofs.lemmas.List.{take-append-drop}
 use Rattle.std.proofs.lemmas.List.Concat.{flat_map-append}
 use Rattle.std.proofs.lemmas.List.Folds.{flat_map-map}
-use Rattle.om_io.specs.Buffered.{IsSame, Adds}
+use Rattle.om_io.specs.Buffered.{Adds}
 use Rattle.om_io.specs.BufferedLaws.{Adds-both, Adds-longer}
 use Rattle.om_io.specs.declared.buffered.BufferedSink.{BufferedSink}
 use Rattle.om_io.specs.declared.sink.WriteStop.{WriteStop}

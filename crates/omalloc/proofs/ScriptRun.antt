@@ -249,11 +249,11 @@ IsEnded-pushed commands outcomes pushed same ended = subst (λ os. IsEnded comma
 -- the rules of a pool that is alone are those of the head
 pub rules_by_head : (options : Opts) (zones : ℕ) (plan : WordPlan) (warned : List ℕ) (head : Head) (words : WordSource) →
     record { options = options; zones = zones; plan = plan; warned = warned } ≡ head → head.zones ≡ most_zones → words ≡ undrawn (source_for plan 0) →
-    rules_by options words.source ≡ rules_of head 0
+    rules_by options most_zones words.source ≡ rules_of head 0
 rules_by_head options zones plan warned head words same all drawn =
     let count : zones ≡ most_zones = ap (λ (h : Head). h.zones) same ∙ all in
     let P : ℕ → Rules = λ n. record { options = options; zones = n; words = source_for plan 0 } in
-    ap (λ (w : WordSource). rules_by options w.source) drawn ∙ ap P (sym count) ∙ ap (λ (h : Head). rules_of h 0) same
+    ap (λ (w : WordSource). rules_by options most_zones w.source) drawn ∙ ap P (sym count) ∙ ap (λ (h : Head). rules_of h 0) same
 
 -- ---- the sizes of an accepted script are served
 

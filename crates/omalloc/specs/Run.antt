@@ -1,5 +1,6 @@
 -- One command on one pool, and a whole script there.
-use Rattle.std.specs.Prelude.{◌≡◌, ℕ, false, List, [], ◌∷◌, ◌++◌, length, Option, Some, None}
+use Rattle.std.specs.Prelude.{◌≡◌, ℕ, ◌+◌, ◌*◌, ◌≤◌, false, List, [], ◌∷◌, ◌++◌, length, Option, Some, None}
+use Rattle.om_broker.specs.Lone.{Lone, lone_share}
 use Rattle.om_model.specs.declared.operation.Op.{Op}
 use Rattle.om_model.specs.declared.operation.Who.{Who}
 use Rattle.om_model.specs.declared.reply.Outcome.{Outcome}
@@ -37,8 +38,13 @@ pub record IsCommandRun (number : ℕ) (c : Command) (before after : List ℕ) (
   pub done : IsDone number (op_of before c) old new o
   pub values : is_fault o ≡ false → after ≡ assigned before c o
 
+-- Of its broker's share the pool has used no more than 66 moves for each call; those that stand for held pages come back
+-- when the pages do.
+abbrev pub HasMoves : PoolView Lone → Type 0
+HasMoves pool = lone_share ≤ (pool.broker).left + length pool.state.held + 66 * length pool.journal.items
+
 -- the script ran on a pool of its own, by the rules of the head
-pub record RanAlone (head : Head) (script : ScriptText) (pool : PoolView) (outcomes : List Outcome) : Type 0 where
+pub record RanAlone (head : Head) (script : ScriptText) (pool : PoolView Lone) (outcomes : List Outcome) : Type 0 where
   pub rules : pool.rules ≡ rules_of head 0
   pub script_run : IsScriptRun 1 0 (length script.names) script.commands (pool.journal.items ∷ []) outcomes
   pub only : OnlyCallers 1 1 pool.journal.items

@@ -12,6 +12,7 @@ ghost use Rattle.omalloc.specs.Refusal.{refusal_line};
 ghost use Rattle.omalloc.specs.Report.{content, front_of, back_of, title_of, titles_of, end_of};
 
 use crate::refusal::{Refusal, push_refusal_line};
+use om_broker::LoneBroker;
 use om_io::{BufferedSink, Sink, WriteStop, write_all};
 use om_model::{Entry, Head, Journal, Outcome, Transcript, text};
 use om_pool::Pool;
@@ -68,7 +69,7 @@ fn write_head<K: Sink>(out: &mut BufferedSink<'_, K>, head: &Head) -> Result<(),
 
 // Adds the title of the pool.
 #[tactic(auto, unfolding(crate::specs::Report::title_of))]
-fn push_title(waiting: &mut Vec<u8>, head: &Head, pool: &Pool) -> Result<(), AllocError>
+fn push_title(waiting: &mut Vec<u8>, head: &Head, pool: &Pool<LoneBroker>) -> Result<(), AllocError>
     requires { pool.now.rules ≡ rules_of head.now 0 }
     ensures { OnOk result (waiting.new.items
         ≡ waiting.old.items ++ title_of head.now pool.now.journal.items) }
@@ -80,7 +81,7 @@ fn push_title(waiting: &mut Vec<u8>, head: &Head, pool: &Pool) -> Result<(), All
 fn write_title<K: Sink>(
     out: &mut BufferedSink<'_, K>,
     head: &Head,
-    pool: &Pool,
+    pool: &Pool<LoneBroker>,
 ) -> Result<(), WriteStop>
     requires { pool.now.rules ≡ rules_of head.now 0 }
     ensures { Adds K.written K.faults out.old out.new
@@ -94,7 +95,7 @@ fn write_title<K: Sink>(
 fn write_front<K: Sink>(
     out: &mut BufferedSink<'_, K>,
     head: &Head,
-    pool: &Pool,
+    pool: &Pool<LoneBroker>,
 ) -> Result<(), WriteStop>
     requires { pool.now.rules ≡ rules_of head.now 0 }
     ensures { Adds K.written K.faults out.old out.new
@@ -163,7 +164,7 @@ fn numbers_fit(head: &Head, journal: &Journal, _name: &[u8], transcript: &Transc
 fn write_text<K: Sink>(
     out: &mut BufferedSink<'_, K>,
     head: &Head,
-    pool: &Pool,
+    pool: &Pool<LoneBroker>,
     name: &[u8],
     transcript: &Transcript,
 ) -> Result<(), WriteStop>
@@ -180,7 +181,7 @@ pub(crate) fn write_output<K: Sink>(
     alloc: Global,
     sink: &mut K,
     head: &Head,
-    pool: &Pool,
+    pool: &Pool<LoneBroker>,
     name: &[u8],
     transcript: &Transcript,
 ) -> Result<(), WriteStop>

@@ -1,18 +1,23 @@
 //! A script on a pool of its own.
-ghost use Rattle.std.specs.Prelude.{◌≡◌, ◌+◌, ◌-◌, ◌^◌, ◌<◌, ◌≤◌, length, vec_len, IfOk, IsTrue, false};
+ghost use Rattle.std.specs.Prelude.{◌≡◌, ◌+◌, ◌<◌, ◌≤◌, [], length, vec_len, IfOk, IsTrue, false};
 ghost use Rattle.std.specs.List.{list_any};
+ghost use Rattle.om_geom.specs.Numbers.{most_zones};
 ghost use Rattle.om_model.specs.Pool.Journal.{is_served};
 ghost use Rattle.om_model.specs.Scripts.Outcomes.{missed, outcome_of, is_fault};
+ghost use Rattle.om_pool.specs.PoolView.{rules_by};
 ghost use Rattle.omalloc.specs.ScriptRun.{at_offset, given};
 ghost use Rattle.omalloc.specs.Heads.{IsHead};
-ghost use Rattle.omalloc.specs.Run.{who_of, IsCall, IsCommandRun, RanAlone};
-ghost use Rattle.omalloc.specs.Script.{IsScript, IsCommand};
+ghost use Rattle.omalloc.specs.Run.{who_of, HasMoves, IsCall, IsCommandRun, RanAlone};
+ghost use Rattle.omalloc.specs.Script.{IsScript, IsCommand, most_commands};
 
 use crate::command::Command;
 use crate::script::Script;
-use om_geom::Addr;
+use om_broker::LoneBroker;
+use om_geom::{Addr, MOST_ZONES};
 use om_model::{Fault, Head, Op, Outcome, Reply, Segv, Transcript, Who};
+use om_opts::Opts;
 use om_pool::Pool;
+use om_words::Words;
 use std::alloc::{AllocError, Global};
 use std::sync::Wait;
 
@@ -20,7 +25,7 @@ use std::sync::Wait;
 #[derive(Drop)]
 pub struct Ran {
     /// The pool after the script.
-    pub pool: Pool,
+    pub pool: Pool<LoneBroker>,
     /// What became of the commands that were done.
     pub transcript: Transcript,
     /// A command met a fault.
@@ -87,17 +92,20 @@ fn who_of(number: u32) -> Who
 
 fn call_malloc<R: Wait>(
     rt: &R,
-    pool: &mut Pool,
+    pool: &mut Pool<LoneBroker>,
     number: u32,
     size: u64,
     site: u64,
 ) -> Result<Outcome, AllocError>
-    requires short { length pool.old.journal.items < 2 ^ 32 - 1 }
+    requires short { length pool.old.journal.items < most_commands }
+    requires zones { pool.old.rules.zones ≤ most_zones }
+    requires moves { HasMoves pool.old }
     requires served { IsTrue (is_served pool.old.rules size) }
     ensures called { IfOk result (λ outcome. IsCall number (Op.Malloc size site)
         pool.old.journal.items pool.new.journal.items outcome) }
     ensures rules { pool.new.rules ≡ pool.old.rules }
     ensures entries { length pool.new.journal.items ≤ length pool.old.journal.items + 1 }
+    ensures moves { HasMoves pool.new }
 {
     pool.reserve()?;
     let reply = pool.malloc(rt, who_of(number), size, site);
@@ -106,39 +114,53 @@ fn call_malloc<R: Wait>(
 
 fn call_free<R: Wait>(
     rt: &R,
-    pool: &mut Pool,
+    pool: &mut Pool<LoneBroker>,
     number: u32,
     addr: u64,
 ) -> Result<Outcome, AllocError>
-    requires short { length pool.old.journal.items < 2 ^ 32 - 1 }
+    requires short { length pool.old.journal.items < most_commands }
+    requires zones { pool.old.rules.zones ≤ most_zones }
+    requires moves { HasMoves pool.old }
     ensures called { IfOk result (λ outcome. IsCall number (Op.Free addr)
         pool.old.journal.items pool.new.journal.items outcome) }
     ensures rules { pool.new.rules ≡ pool.old.rules }
     ensures entries { length pool.new.journal.items ≤ length pool.old.journal.items + 1 }
+    ensures moves { HasMoves pool.new }
 {
     pool.reserve()?;
     let reply = pool.free(rt, who_of(number), Addr(addr));
     Ok(outcome_of(Op::Free { addr }, reply))
 }
 
-fn call_load(pool: &mut Pool, number: u32, addr: u64) -> Result<Outcome, AllocError>
-    requires short { length pool.old.journal.items < 2 ^ 32 - 1 }
+fn call_load(pool: &mut Pool<LoneBroker>, number: u32, addr: u64) -> Result<Outcome, AllocError>
+    requires short { length pool.old.journal.items < most_commands }
+    requires zones { pool.old.rules.zones ≤ most_zones }
+    requires moves { HasMoves pool.old }
     ensures called { IfOk result (λ outcome. IsCall number (Op.Load addr)
         pool.old.journal.items pool.new.journal.items outcome) }
     ensures rules { pool.new.rules ≡ pool.old.rules }
     ensures entries { length pool.new.journal.items ≤ length pool.old.journal.items + 1 }
+    ensures moves { HasMoves pool.new }
 {
     pool.reserve()?;
     let reply = pool.load(who_of(number), Addr(addr));
     Ok(outcome_of(Op::Load { addr }, reply))
 }
 
-fn call_store(pool: &mut Pool, number: u32, addr: u64, byte: u8) -> Result<Outcome, AllocError>
-    requires short { length pool.old.journal.items < 2 ^ 32 - 1 }
+fn call_store(
+    pool: &mut Pool<LoneBroker>,
+    number: u32,
+    addr: u64,
+    byte: u8,
+) -> Result<Outcome, AllocError>
+    requires short { length pool.old.journal.items < most_commands }
+    requires zones { pool.old.rules.zones ≤ most_zones }
+    requires moves { HasMoves pool.old }
     ensures called { IfOk result (λ outcome. IsCall number (Op.Store addr byte)
         pool.old.journal.items pool.new.journal.items outcome) }
     ensures rules { pool.new.rules ≡ pool.old.rules }
     ensures entries { length pool.new.journal.items ≤ length pool.old.journal.items + 1 }
+    ensures moves { HasMoves pool.new }
 {
     pool.reserve()?;
     let reply = pool.store(who_of(number), Addr(addr), byte);
@@ -149,18 +171,21 @@ fn call_store(pool: &mut Pool, number: u32, addr: u64, byte: u8) -> Result<Outco
 #[tactic(auto, using(crate::proofs::ScriptRun::size_served))]
 fn run_command<R: Wait>(
     rt: &R,
-    pool: &mut Pool,
+    pool: &mut Pool<LoneBroker>,
     values: &mut Vec<u64>,
     number: u32,
     command: Command,
 ) -> Result<Outcome, AllocError>
-    requires short { length pool.old.journal.items < 2 ^ 32 - 1 }
+    requires short { length pool.old.journal.items < most_commands }
+    requires zones { pool.old.rules.zones ≤ most_zones }
+    requires moves { HasMoves pool.old }
     requires form { IsCommand (vec_len values.old) command }
     requires plain { pool.old.rules.options.canary ≡ false }
     ensures ran { IfOk result (λ outcome. IsCommandRun number command
         values.old.items values.new.items pool.old.journal.items pool.new.journal.items outcome) }
     ensures rules { pool.new.rules ≡ pool.old.rules }
     ensures entries { length pool.new.journal.items ≤ length pool.old.journal.items + 1 }
+    ensures moves { HasMoves pool.new }
     ensures variables { vec_len values.new ≡ vec_len values.old }
 {
     match command {
@@ -184,6 +209,20 @@ fn run_command<R: Wait>(
     }
 }
 
+// A pool of all zones, which it has to itself.
+fn new_pool(alloc: Global, opts: Opts, words: Words) -> Result<Pool<LoneBroker>, AllocError>
+    requires { words.place ≡ 0 }
+    ensures rules { IfOk result (λ pool. pool.rules ≡ rules_by opts most_zones words.source) }
+    ensures entries { IfOk result (λ pool. pool.journal.items ≡ []) }
+    ensures moves { IfOk result HasMoves }
+{
+    let broker = LoneBroker::new(alloc, MOST_ZONES)?;
+    match Pool::start(alloc, opts, words, MOST_ZONES, broker) {
+        Ok(pool) => Ok(pool),
+        Err(_) => Err(AllocError),
+    }
+}
+
 /// Runs the script on a new pool, by the options and the words of the head.
 pub fn run_script<R: Wait>(
     rt: &R,
@@ -197,7 +236,7 @@ pub fn run_script<R: Wait>(
     ensures faulted { IfOk result (λ ran. ran.faulted ≡ list_any is_fault ran.transcript) }
 {
     let words = head.plan.words(alloc, 0)?;
-    let mut pool = Pool::start(alloc, head.opts, words)?;
+    let mut pool = new_pool(alloc, head.opts, words)?;
     let mut values = vec![in alloc; 0u64; script.variables()]?;
     let mut transcript = Transcript::new(alloc);
     for (i, command) in script.commands().iter().enumerate() {

@@ -1,8 +1,8 @@
 -- A lawful journal: folded from the opening state, each call has exactly the reply, the words and the
 -- release that its step has, and the zones answered as they may. Phases are numbered 1, 2, .., and change
 -- nothing.
-use Rattle.std.specs.Prelude.{◌≡◌, ℕ, ◌+◌, ◌<◌, ◌≤◌, Bool, false, List, [], ◌∷◌, length, map, Option, Some, None, IfSome, IsSomeAnd, if◌then◌else◌}
-use Rattle.std.specs.List.{flat_map, range_with_len}
+use Rattle.std.specs.Prelude.{◌≡◌, ℕ, ◌+◌, ◌<◌, ◌≤◌, Bool, true, false, List, [], ◌∷◌, length, map, Option, Some, None, IfSome, IsSomeAnd, if◌then◌else◌}
+use Rattle.std.specs.List.{flat_map, range_with_len, AllByRecursion}
 use Rattle.std.specs.Option.{is_some, option_map}
 use Rattle.om_geom.specs.Addresses.{zone_of}
 use Rattle.om_geom.specs.Fit.{searched_zone}
@@ -28,6 +28,10 @@ use Rattle.om_model.specs.declared.operation.Who.{Who}
 -- the sizes that are served so far: chunks
 abbrev pub is_served : Rules → ℕ → Bool
 is_served rules size = is_some (size_class rules size)
+
+-- each live block's size is served
+abbrev pub AreServed : Rules → State → Type 0
+AreServed rules state = AllByRecursion (λ block. is_served rules block.size ≡ true) state.live
 
 -- what the operation asks of the zones
 abbrev pub wish_of : Rules → State → Op → Wish

@@ -3,7 +3,7 @@
 -- whole at level 1 and at level 2; of a page block level 1 fills the front, and level 2 all data pages.
 use Rattle.std.specs.Prelude.{ℕ, ◌*◌, ◌==◌, ◌||◌, if◌then◌else◌, Option, Some, None}
 use Rattle.om_geom.specs.Classes.{data_pages}
-use Rattle.om_geom.specs.Numbers.{page_size}
+use Rattle.om_geom.specs.Numbers.{page_size, largest_class}
 use Rattle.om_geom.specs.declared.address.Extent.{Extent}
 use Rattle.om_model.specs.Pool.InUse.{use_of_place, data_of}
 use Rattle.om_model.specs.Pool.Rules.{Rules, size_class}
@@ -39,7 +39,7 @@ with_freed_place rules place state =
 
 -- how many bytes of a freed page block are filled, from its first on
 abbrev pub freed_len : ℕ → ℕ → ℕ
-freed_len level size = if level == 1 then 2048 else if level == 2 then page_size * data_pages size else 0
+freed_len level size = if level == 1 then largest_class else if level == 2 then page_size * data_pages size else 0
 
 unfoldable pub with_freed_pages : Rules → Block → State → State
 with_freed_pages rules block state =

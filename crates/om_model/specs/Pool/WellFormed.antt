@@ -1,17 +1,20 @@
--- Well-formed states: what is in use shares no byte and lies on held pages, and no page is touched by places of
--- two classes, or by a place and a page block. Chunks are places of their pages. Held pages ascend and are pages of
--- the arena; memory has their bytes and no others. There are 16 slots, delayed places are of classes, and every live
--- block is a chunk so far.
-use Rattle.std.specs.Prelude.{◌≡◌, ℕ, ◌*◌, ◌<◌, true, List, [], ◌∷◌, length, IsSome, IsTrue, if◌then◌else◌}
+-- Well-formed states: what is in use (the places of live chunks and of delayed ones, the data pages and the guards of
+-- page blocks) shares no byte and lies on held pages, and no page is touched by places of two classes, or by a place
+-- and a page block. Chunks are places of their pages; page blocks and guards begin where a page does, and each block
+-- lies in one zone with its guard. Held pages ascend and are pages of the arena; memory has their bytes and no
+-- others. There are 16 slots, delayed places are of classes, and no live block is too large.
+use Rattle.std.specs.Prelude.{◌≡◌, ℕ, ◌+◌, ◌*◌, ◌<◌, ◌≤◌, true, false, List, [], ◌∷◌, length, IsTrue, if◌then◌else◌}
 use Rattle.std.specs.List.{AllByRecursion}
 use Rattle.om_frame.specs.Memory.{page_bytes}
-use Rattle.om_geom.specs.Addresses.{Covers, SharesByte, address_of, page_at}
+use Rattle.om_geom.specs.Addresses.{Covers, SharesByte, address_of, bit_of, page_at}
 use Rattle.om_geom.specs.Classes.{is_class}
 use Rattle.om_geom.specs.Numbers.{page_size, zone_pages}
-use Rattle.om_model.specs.Pool.Rules.{Rules, size_class}
+use Rattle.om_model.specs.Pool.Malloc.{is_too_large, pages_for}
+use Rattle.om_model.specs.Pool.Rules.{Rules}
 use Rattle.om_model.specs.Pool.State.{State, slot_count, delayed, holds, is_held}
 use Rattle.om_model.specs.Pool.InUse.{Kind, Chunk, Use, uses, touches}
 use Rattle.om_model.specs.Pool.Picks.{starts_place}
+use Rattle.om_model.specs.declared.block.Block.{Block}
 
 -- the relation holds of each element and each one after it
 abbrev pub EachPair : {X : Type 0} → (X → X → Type 0) → List X → Type 0
@@ -41,6 +44,11 @@ BeginsRight address kind = address ≡ address_of (page_at address)
 abbrev pub LiesOn : Rules → State → Use → Type 0
 LiesOn rules state one = (byte : ℕ) → Covers one.extent byte → holds rules state byte ≡ true
 
+-- it has a class or isn't too large, and its pages, with the guard's, are of one zone
+pub record FitsZone (rules : Rules) (block : Block) : Type 0 where
+  pub fits : is_too_large rules block.size ≡ false
+  pub within : bit_of (page_at block.address) + pages_for rules block.size ≤ zone_pages
+
 -- a page has its bytes where it is held, and else none
 abbrev pub HasBytes : State → ℕ → Type 0
 HasBytes state page = length (page_bytes state.memory page) ≡ (if is_held state.held page then page_size else 0)
@@ -52,7 +60,7 @@ pub record IsWellFormed (rules : Rules) (state : State) : Type 0 where
   pub bytes : (page : ℕ) → HasBytes state page
   pub slots : length state.slots ≡ slot_count
   pub classes : AllByRecursion (λ place. IsTrue (is_class place.class)) (delayed state.slots)
-  pub chunks : AllByRecursion (λ block. IsSome (size_class rules block.size)) state.live
+  pub zoned : AllByRecursion (FitsZone rules) state.live
   pub begin : AllByRecursion (λ one. BeginsRight (one.extent).first one.kind) (uses rules state)
   pub apart : EachPair AreApart (uses rules state)
   pub on_held : AllByRecursion (LiesOn rules state) (uses rules state)

@@ -357,7 +357,7 @@ impl State {
 fn are_lawful(alloc: Global, head: &Head, pool: u32, journal: &Journal) -> Result<bool, AllocError>
     requires words { HasWords head.now.plan }
     requires some_zone { 1 ≤ head.now.zones }
-    requires few_zones { head.now.zones ≤ 64 }
+    requires few_zones { head.now.zones ≤ most_zones }
     ensures { IfOk result (λ lawful. IsTrue lawful ↔ IsLawfulFrom
         (rules_of head.now pool) (opening (rules_of head.now pool)) journal.now.items) }
 {

@@ -10,7 +10,7 @@ use super::rules::size_class;
 use super::state::State;
 use crate::block::{Block, Place};
 use crate::content::Head;
-use om_geom::{PAGE_SIZE, pages_of};
+use om_geom::{LARGEST_CLASS, PAGE_SIZE, pages_of};
 
 const FRESH: u8 = 0xdb;
 
@@ -66,7 +66,7 @@ fn freed_len(level: u8, size: u64) -> u128
     ensures few { result < 2 ^ 66 }
 {
     match level {
-        1 => 2048,
+        1 => u128::from(LARGEST_CLASS),
         2 => u128::from(PAGE_SIZE) * u128::from(pages_of(size)),
         _ => 0,
     }

@@ -40,7 +40,8 @@ pub(super) fn words_for(head: &Head, pool: u32, size: u64) -> u32
     }
 }
 
-fn is_too_large(head: &Head, pool: u32, size: u64) -> bool
+/// Whether no zone has room for so many bytes.
+pub(super) fn is_too_large(head: &Head, pool: u32, size: u64) -> bool
     ensures { result ≡ is_too_large (rules_of head.now pool) size }
 {
     size_class(head, size).is_none() && block_pages(head, size) > u64::from(ZONE_PAGES)

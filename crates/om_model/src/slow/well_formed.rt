@@ -1,20 +1,19 @@
 //! Well-formed states: what is in use shares no byte, begins where it may, lies on held pages, and is alike on
-//! each page; the held pages ascend in the arena, and memory has their bytes.
-ghost use Rattle.std.specs.Prelude.{◌≡◌, ℕ, ◌*◌, ◌<◌, ◌↔◌, true, length, IsSome, IsTrue, IfOk};
+//! each page; each block lies in one zone; the held pages ascend in the arena, and memory has their bytes.
+ghost use Rattle.std.specs.Prelude.{◌≡◌, ℕ, ◌*◌, ◌<◌, ◌↔◌, true, length, IsTrue, IfOk};
 ghost use Rattle.std.specs.List.{AllByRecursion, list_all};
 ghost use Rattle.om_geom.specs.Addresses.{shares_byte};
 ghost use Rattle.om_geom.specs.Classes.{is_class};
 ghost use Rattle.om_geom.specs.Numbers.{zone_pages};
 ghost use Rattle.om_model.specs.Output.Head.{rules_of};
-ghost use Rattle.om_model.specs.Pool.Rules.{size_class};
 ghost use Rattle.om_model.specs.Pool.InUse.{touches};
 ghost use Rattle.om_model.specs.Pool.State.{slot_count, holds};
-ghost use Rattle.om_model.specs.Pool.WellFormed.{EachPair, AreApart, AreAlike, AgreeOnPages, BeginsRight, HasBytes, LiesOn, IsWellFormed};
+ghost use Rattle.om_model.specs.Pool.WellFormed.{EachPair, AreApart, AreAlike, AgreeOnPages, BeginsRight, FitsZone, HasBytes, LiesOn, IsWellFormed};
 ghost use Rattle.om_model.specs.Slow.{kind_in};
 
 use super::in_use::{Kind, Use, first_byte, kind_of, page_of, touches, uses};
+use super::malloc::{is_too_large, pages_for};
 use super::picks::starts_place;
-use super::rules::size_class;
 use super::state::{State, is_held};
 use crate::block::{Block, Place, SLOT_COUNT};
 use crate::content::Head;
@@ -33,10 +32,10 @@ impl State {
         let bytes = has_its_bytes(head.zones, self);
         let places = self.delayed()?;
         let classes = have_classes(&places);
-        let chunks = are_chunks(head, pool, &self.live);
+        let zoned = are_zoned(head, pool, &self.live);
         let placed = are_placed(&used);
         let lie = lie_on(head, pool, self, &used);
-        Ok(are_all([held, bytes, classes, chunks, placed, lie]))
+        Ok(are_all([held, bytes, classes, zoned, placed, lie]))
     }
 }
 
@@ -137,12 +136,19 @@ fn have_classes(places: &[Place]) -> bool
     places.iter().all(|place| is_class(place.class))
 }
 
-fn are_chunks(head: &Head, pool: u32, live: &[Block]) -> bool
-    ensures { IsTrue result ↔ AllByRecursion
-        (λ block. IsSome (size_class (rules_of head.now pool) block.size)) live.now }
+// Whether the block isn't too large, and lies in one zone with its guard.
+fn fits_zone(head: &Head, pool: u32, block: Block) -> bool
+    ensures { IsTrue result ↔ FitsZone (rules_of head.now pool) block }
 {
-    live.iter()
-        .all(|block| size_class(head, block.size).is_some())
+    let bit = page_of(u128::from(block.address)) % u64::from(ZONE_PAGES);
+    let pages = pages_for(head, pool, block.size);
+    !is_too_large(head, pool, block.size) && bit + pages <= u64::from(ZONE_PAGES)
+}
+
+fn are_zoned(head: &Head, pool: u32, live: &[Block]) -> bool
+    ensures { IsTrue result ↔ AllByRecursion (FitsZone (rules_of head.now pool)) live.now }
+{
+    live.iter().all(|block| fits_zone(head, pool, *block))
 }
 
 // A chunk begins where a place does, and what has whole pages at the first byte of a page.

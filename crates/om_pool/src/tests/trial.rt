@@ -1,11 +1,13 @@
 //! A pool with the options that it was started with. A call asserts that its size is served, and that the
 //! answer is the one that is wanted.
-ghost use Rattle.std.specs.Prelude.{◌≡◌};
+ghost use Rattle.std.specs.Prelude.{◌≡◌, ◌≤◌};
 ghost use Rattle.std.specs.Option.{is_some};
 ghost use Rattle.om_geom.specs.Classes.{class_of};
+ghost use Rattle.om_geom.specs.Numbers.{most_zones};
 
 use crate::Pool;
-use om_geom::{Addr, class_of};
+use om_broker::LoneBroker;
+use om_geom::{Addr, MOST_ZONES, class_of};
 use om_model::{Journal, Reply, Who};
 use om_opts::Opts;
 use om_words::Words;
@@ -18,33 +20,54 @@ use std::test::Fail;
 #[derive(Drop)]
 pub(super) struct Trial {
     opts: Opts,
-    pool: Pool,
+    pool: Pool<LoneBroker>,
 }
 
 impl Model for Trial {
-    ghost use Rattle.std.specs.Prelude.{◌≡◌};
+    ghost use Rattle.std.specs.Prelude.{◌≡◌, ◌+◌, ◌*◌, ◌≤◌, length};
+    ghost use Rattle.om_broker.specs.Lone.{Lone, lone_share};
+    ghost use Rattle.om_geom.specs.Numbers.{most_zones};
     ghost use Rattle.om_pool.specs.PoolView.{PoolView};
 
-    ghost Value = { PoolView };
+    ghost Value = { PoolView Lone };
 
     ghost view = { λ t. t.pool };
 
-    ghost invariant = { λ t. (t.pool.rules).options ≡ t.opts };
+    ghost invariant = { λ t. ((t.pool.rules).options ≡ t.opts)
+        × ((t.pool.rules).zones ≤ most_zones)
+        × (lone_share ≤ (t.pool.broker).left + length (t.pool.state).held
+        + 66 * length (t.pool.journal).items) };
 }
 
 /// Over a list of words.
 pub(super) fn pool_over(alloc: Global, opts: Opts, words: Vec<u32>) -> Result<Trial, Fail> {
     let words = Words::listed(words)?;
-    let pool = Pool::start(alloc, opts, words)?;
-    Ok(Trial { opts, pool })
+    Ok(pool_by(alloc, opts, words)?)
 }
 
 /// Over the words that the plan gives to pool 0.
 pub(super) fn pool_by(alloc: Global, opts: Opts, words: Words) -> Result<Trial, AllocError>
     requires { words.place ≡ 0 }
 {
-    let pool = Pool::start(alloc, opts, words)?;
-    Ok(Trial { opts, pool })
+    pool_in(alloc, opts, words, MOST_ZONES)
+}
+
+/// Alone in an arena of so many zones.
+pub(super) fn pool_in(
+    alloc: Global,
+    opts: Opts,
+    words: Words,
+    zones: u32,
+) -> Result<Trial, AllocError>
+    requires first { words.place ≡ 0 }
+    requires some { 1 ≤ zones }
+    requires few { zones ≤ most_zones }
+{
+    let broker = LoneBroker::new(alloc, zones)?;
+    match Pool::start(alloc, opts, words, zones, broker) {
+        Ok(pool) => Ok(Trial { opts, pool }),
+        Err(_) => Err(AllocError),
+    }
 }
 
 impl Trial {

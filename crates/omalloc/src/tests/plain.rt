@@ -1,4 +1,5 @@
 //! Whole runs, judged and written by the plain forms of the definitions.
+ghost use Rattle.om_words.specs.PlannedWords.{HasWords};
 ghost use Rattle.omalloc.specs.Heads.{IsHead};
 ghost use Rattle.omalloc.specs.Script.{IsScript};
 
@@ -90,8 +91,43 @@ fn judge_pool(rt: &impl Abort, alloc: Global, head: &Head, journal: &Journal) ->
     Ok(())
 }
 
+fn told_of(alloc: Global, script: &Script, outcomes: Transcript) -> Result<Told, AllocError> {
+    Ok(Told {
+        name: script.name().to_vec(alloc)?,
+        outcomes,
+    })
+}
+
+// The output that tells the journal of the only pool and the only script.
+fn text_of(alloc: Global, head: &Head, journal: &Journal, told: Told) -> Result<Vec<u8>, AllocError>
+    requires { HasWords head.now.plan }
+{
+    slow::text_of(alloc, head, slice::from_ref(journal), &[], &[told])
+}
+
+// The output of the script's run under the head, which is judged first.
+fn output_of_run<R: Abort + Wait>(
+    rt: &R,
+    alloc: Global,
+    head: &Head,
+    script: &Script,
+) -> Result<Vec<u8>, Fail>
+    requires head { IsHead head.now }
+    requires script { IsScript script.now }
+{
+    let Ran {
+        pool,
+        transcript,
+        ..
+    } = run_script(rt, alloc, head, script)?;
+    judge_script(rt, alloc, script, pool.journal(), &transcript)?;
+    judge_pool(rt, alloc, head, pool.journal())?;
+    let told = told_of(alloc, script, transcript)?;
+    Ok(text_of(alloc, head, pool.journal(), told)?)
+}
+
 // The output for the arguments of a line and a text, by the plain forms.
-fn plain_output<R: Abort + Threads + Wait + Sync>(
+fn plain_output<R: Abort + Wait>(
     rt: &R,
     alloc: Global,
     line: &str,
@@ -101,20 +137,7 @@ fn plain_output<R: Abort + Threads + Wait + Sync>(
     let arguments = arguments_of(alloc, line)?;
     let head = read_arguments(alloc, &arguments)?;
     let script = read(alloc, text.as_bytes())?;
-    let ran = run_script(rt, alloc, &head, &script)?;
-    let Ran {
-        pool,
-        transcript,
-        ..
-    } = ran;
-    judge_script(rt, alloc, &script, pool.journal(), &transcript)?;
-    judge_pool(rt, alloc, &head, pool.journal())?;
-    let told = Told {
-        name: script.name().to_vec(alloc)?,
-        outcomes: transcript,
-    };
-    let journals = slice::from_ref(pool.journal());
-    Ok(slow::text_of(alloc, &head, journals, &[], &[told])?)
+    output_of_run(rt, alloc, &head, &script)
 }
 
 // The program writes what the plain forms write, and ends so.

@@ -16,6 +16,7 @@ loop-i-init g c =
       variables = c.in_ok-values.ensures.len ∙ c.variables.ensures;
       outcomes = ap length c.new-transcript.ensures;
       entries = omega (arith, ap length c.in_ok-pool.ensures.entries);
+      moves = c.in_ok-pool.ensures.moves;
       fine = ap (list_any is_fault) c.new-transcript.ensures;
       part = IsPart-script _ _ _ _ _ _ c.commands-command-items.ensures values c.in_ok-pool.ensures.entries c.new-transcript.ensures;
     }
@@ -57,6 +58,7 @@ loop-i-preserved g c =
       variables = c.in_ok-outcome.ensures.variables ∙ c.loop-i.invariant.variables;
       outcomes = ap length pushed ∙ length_more outcomes o ∙ ap (λ n. n + 1) c.loop-i.invariant.outcomes;
       entries = omega (arith, c.in_ok-outcome.ensures.entries, c.loop-i.invariant.entries);
+      moves = c.in_ok-outcome.ensures.moves;
       fine = ap (list_any is_fault) pushed ∙ fault_more outcomes o false c.loop-i.invariant.fine fine;
       part = IsPart-pushed _ _ _ _ _ pushed next;
     }

@@ -3,20 +3,23 @@ use Rattle.om_model.specs.Pool.Free.{free}
 use Rattle.om_model.specs.declared.operation.Op.TheVariants.{Free}
 use Rattle.om_model.proofs.Denied.{free-keeps}
 use Rattle.om_pool.specs.CoreKept.{view_of}
-use Rattle.om_pool.specs.PoolView.{PoolView, IsRun, Takes}
-use Rattle.om_pool.proofs.CoreLaws.{core_run, taken-keeps}
+use Rattle.om_pool.specs.PoolView.{PoolView, IsRun, Takes, UsesBroker}
+use Rattle.om_pool.proofs.CoreLaws.{core_run, taken-keeps, taken-with}
 use Rattle.om_pool.proofs.calls.Pool.free.Goals as goal
 
 pub returns-clause-taken : goal.returns-clause-taken
 returns-clause-taken g c =
-    let Taken : PoolView → Type 0 = λ old. Takes old (view_of c.free.new.self) c.args.who (Free c.args.addr.0) c.free.result (λ answers. free old.rules old.state c.args.addr.0) in
-    subst Taken c.self.view_is c.free.ensures.taken
+    let Taken : PoolView g.row.B.Denot → Type 0 = λ old. Takes old (view_of c.free.new.self c.free.new.broker) c.args.who (Free c.args.addr.0) c.free.result (λ answers. free old.rules old.state c.args.addr.0) in
+    subst Taken c.self.view_is (taken-with c.self.inside.core c.free.new.self c.self.inside.broker c.free.new.broker c.args.who (Free c.args.addr.0) c.free.result _ c.free.ensures.taken)
 
 pub returns-clause-denied : goal.returns-clause-denied
 returns-clause-denied g c =
     let old = c.args.self.now in
-    taken-keeps old (view_of c.free.new.self) c.args.who (Free c.args.addr.0) c.free.result (λ answers. free old.rules old.state c.args.addr.0) (returns-clause-taken g c)
+    taken-keeps old (view_of c.free.new.self c.free.new.broker) c.args.who (Free c.args.addr.0) c.free.result (λ answers. free old.rules old.state c.args.addr.0) (returns-clause-taken g c)
     (λ answers. free-keeps old.rules old.state c.args.addr.0)
 
 pub returns-clause-before : goal.returns-clause-before
-returns-clause-before g c = subst IsRun c.self.view_is (core_run c.self.inside.core c.self.invariant)
+returns-clause-before g c = let Run : PoolView g.row.B.Denot → Type 0 = λ pool. IsRun pool in subst Run c.self.view_is (core_run c.self.inside.core c.self.invariant.0 c.self.inside.broker)
+
+pub returns-clause-uses : goal.returns-clause-uses
+returns-clause-uses g c = let Uses : PoolView g.row.B.Denot → Type 0 = λ old. UsesBroker g.B.Broker old (view_of c.free.new.self c.free.new.broker) c.free.result in subst Uses c.self.view_is c.free.ensures.uses

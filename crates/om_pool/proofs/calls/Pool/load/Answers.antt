@@ -1,22 +1,41 @@
-use Rattle.std.proofs.Common.{subst}
+use Rattle.std.proofs.Common.{ap, subst, ◌∙◌}
 use Rattle.om_model.specs.Pool.Access.{load}
 use Rattle.om_model.specs.declared.operation.Op.TheVariants.{Load}
 use Rattle.om_model.proofs.Denied.{load-keeps}
-use Rattle.om_pool.specs.CoreKept.{view_of}
-use Rattle.om_pool.specs.PoolView.{PoolView, IsRun, Takes}
-use Rattle.om_pool.proofs.CoreLaws.{core_run, taken-keeps}
+use Rattle.om_pool.specs.CoreKept.{core_state, view_of}
+use Rattle.om_pool.specs.HoldingsView.{rules_in}
+use Rattle.om_pool.specs.PoolView.{PoolView, IsRun, Takes, UsesBroker}
+use Rattle.om_pool.proofs.CallLaws.{backed-quiet}
+use Rattle.om_pool.proofs.Spending.{load-says, uses-quiet}
+use Rattle.om_pool.specs.PoolView.{says_no_run}
+use Rattle.om_pool.proofs.CoreLaws.{core_run, taken-keeps, taken-with}
 use Rattle.om_pool.proofs.calls.Pool.load.Goals as goal
 
 pub returns-clause-taken : goal.returns-clause-taken
-returns-clause-taken c =
-    let Taken : PoolView → Type 0 = λ old. Takes old (view_of c.load.new.self) c.args.who (Load c.args.addr.0) c.load.result (λ answers. load old.rules old.state c.args.addr.0) in
-    subst Taken c.self.view_is c.load.ensures.taken
+returns-clause-taken g c =
+    let Taken : PoolView g.row.B.Denot → Type 0 = λ old. Takes old (view_of c.load.new.self c.self.inside.broker) c.args.who (Load c.args.addr.0) c.load.result (λ answers. load old.rules old.state c.args.addr.0) in
+    subst Taken c.self.view_is (taken-with c.self.inside.core c.load.new.self c.self.inside.broker c.self.inside.broker c.args.who (Load c.args.addr.0) c.load.result _ c.load.ensures.taken)
 
 pub returns-clause-denied : goal.returns-clause-denied
-returns-clause-denied c =
+returns-clause-denied g c =
     let old = c.args.self.now in
-    taken-keeps old (view_of c.load.new.self) c.args.who (Load c.args.addr.0) c.load.result (λ answers. load old.rules old.state c.args.addr.0) (returns-clause-taken c)
+    taken-keeps old (view_of c.load.new.self c.self.inside.broker) c.args.who (Load c.args.addr.0) c.load.result (λ answers. load old.rules old.state c.args.addr.0) (returns-clause-taken g c)
     (λ answers. load-keeps old.rules old.state c.args.addr.0)
 
 pub returns-clause-before : goal.returns-clause-before
-returns-clause-before c = subst IsRun c.self.view_is (core_run c.self.inside.core c.self.invariant)
+returns-clause-before g c = let Run : PoolView g.row.B.Denot → Type 0 = λ pool. IsRun pool in subst Run c.self.view_is (core_run c.self.inside.core c.self.invariant.0 c.self.inside.broker)
+
+pub returns-clause-uses : goal.returns-clause-uses
+returns-clause-uses g c =
+    let core = c.self.inside.core in
+    let took = c.load.ensures.taken in
+    let Uses : PoolView g.row.B.Denot → Type 0 = λ old. UsesBroker g.B.Broker old (view_of c.load.new.self c.self.inside.broker) c.load.result in
+    subst Uses c.self.view_is
+    (uses-quiet g.B.Broker core c.load.new.self c.self.inside.broker c.load.result c.load.ensures.quiet.held
+    (ap says_no_run took.reply_is ∙ load-says (rules_in core.state) (core_state core) c.args.addr.0))
+
+pub invariant_of-self : goal.invariant_of-self
+invariant_of-self g c = (c.load.ensures.kept, backed-quiet g.B.Broker c.self.inside.core c.load.new.self c.self.inside.broker c.args.who (Load c.args.addr.0) c.load.result c.load.ensures.quiet c.self.invariant.1)
+
+pub returns-clause-made : goal.returns-clause-made
+returns-clause-made g c = (invariant_of-self g c).1

@@ -1,95 +1,151 @@
-use Rattle.std.proofs.Common.{◌≡◌, ℕ, ◌%◌, ◌++◌, List, [], ◌∷◌, None, IfSome, arith, refl, sym, subst, ap, ◌∙◌}
-use Rattle.om_model.specs.Pool.Free.{Freed, done_with, evicted, put_off, slot_of}
-use Rattle.om_model.specs.Pool.Journal.{GivesUp}
+use Rattle.std.proofs.Common.{◌≡◌, ℕ, ◌+◌, ◌%◌, ◌++◌, List, [], ◌∷◌, Option, None, is_some, arith, refl, sym, subst, ap, ◌∙◌}
+use Rattle.std.specs.Prelude.{slice_index_or}
+use Rattle.std.proofs.lemmas.Nat.{mod_below}
+use Rattle.om_broker.specs.Claims.{HasFrames}
+use Rattle.om_chunk.specs.Pages.{place_in}
+use Rattle.om_frame.specs.Frames.{zero_frames}
+use Rattle.om_geom.specs.Addresses.{page_at}
+use Rattle.om_model.specs.Pool.Free.{Freed, done_with, evicted, free_at, put_off, slot_of}
+use Rattle.om_model.specs.Pool.Rules.{Rules, word_at}
 use Rattle.om_model.specs.Pool.State.{State, drawn_more}
+use Rattle.om_model.specs.Pool.Steps.{Step}
+use Rattle.om_model.specs.declared.block.Place.{Place}
 use Rattle.om_model.specs.declared.entry.Entry.TheVariants.{Call}
 use Rattle.om_model.specs.declared.operation.Op.TheVariants.{Free}
 use Rattle.om_model.specs.declared.reply.Reply.TheVariants as reply
-use Rattle.om_pool.specs.Freeing.{IsHeldPlace}
-use Rattle.om_pool.specs.Home.{IsHome}
-use Rattle.om_pool.specs.HoldingsView.{rules_in, state_in}
+use Rattle.om_model.proofs.Malloc.{drawn_more-sound}
+use Rattle.om_words.specs.DrawnWords.{WordSource}
+use Rattle.om_pool.specs.Asking.{IsLeft}
+use Rattle.om_pool.specs.Chunks.{HoldsPlace}
+use Rattle.om_pool.specs.CoreKept.{core_state}
+use Rattle.om_pool.specs.Freeing.{IsThere}
+use Rattle.om_pool.specs.HoldingsView.{rules_in, tables_in}
+use Rattle.om_pool.specs.TableSteps.{delayed_place, freed_filled}
+use Rattle.om_pool.specs.Tables.{Tables, StandFor}
 use Rattle.om_pool.specs.Unasked.{no_answers}
-use Rattle.om_pool.specs.Zones.{ZoneTable, IsLeft}
 use Rattle.om_pool.specs.declared.holdings.Holdings.{Holdings}
 use Rattle.om_pool.specs.declared.pool_core.Core.{Core}
-use Rattle.om_pool.proofs.CoreLaws.{core-sound, core_can_move, core_drawn, core_formed, entry_with, kept, taken}
-use Rattle.om_pool.proofs.Formed.{chunks-put_off, evicted-held-if, held-put_off, memory-put_off}
-use Rattle.om_pool.proofs.FreeLaws.{delay-is}
+use Rattle.om_pool.proofs.CallLaws.{backed-let_go, lets-has}
+use Rattle.om_pool.proofs.CoreLaws.{core-served, core-sound, core_drawn, entry_with, kept, left_after, same-rules, taken}
+use Rattle.om_pool.proofs.FreeLaws.{GivesOf, delay-is, filled-rules, filled-tables, filled-words, gone-is_held, gone-there, has-evicted, if-some, left_tables, lives, place-bytes, put-off-leaves}
+use Rattle.om_pool.proofs.Spending.{uses-left}
+use Rattle.om_pool.proofs.TablePages.{words-drawn}
 use Rattle.om_pool.proofs.UnaskedLaws.{unasked-does}
 use Rattle.om_pool.proofs.pool_core.Core.delay.Goals as goal
 
 pub draw-word-requires : goal.draw-word-requires
-draw-word-requires c = let few = core_drawn c.args.self.now c.requires.kept c.requires.room.short in omega arith
+draw-word-requires g c = let few = core_drawn c.args.self.now c.requires.kept c.requires.room.short in omega arith
 
-pub put_off-evicted-requires-clause-place : goal.put_off-evicted-requires-clause-place
-put_off-evicted-requires-clause-place c = rw c.draw-word.ensures.same c.requires.place
-
-pub evict-release-requires-clause-chunks : goal.evict-release-requires-clause-chunks
-evict-release-requires-clause-chunks c =
-    chunks-put_off c.args.self.now.state c.draw-word.new.self c.put_off-evicted.new.self (c.draw-word.result % 16) c.args.place c.draw-word.ensures.same c.put_off-evicted.ensures.state c.put_off-evicted.ensures.rules
-    c.requires.place.on_page (core_formed c.args.self.now c.requires.kept).chunks
-
-pub evict-release-requires-clause-memory : goal.evict-release-requires-clause-memory
-evict-release-requires-clause-memory c =
-    memory-put_off c.args.self.now.state c.draw-word.new.self c.put_off-evicted.new.self (c.draw-word.result % 16) c.args.place c.draw-word.ensures.same c.put_off-evicted.ensures.state
-    (core_formed c.args.self.now c.requires.kept).memory
-
-pub evict-release-requires-clause-home : goal.evict-release-requires-clause-home
-evict-release-requires-clause-home c =
-    let P : List ℕ → Type 0 = λ pages. IsHome pages c.args.self.now.home in
-    subst P (sym (held-put_off c.args.self.now.state c.draw-word.new.self c.put_off-evicted.new.self (c.draw-word.result % 16) c.args.place c.draw-word.ensures.same c.put_off-evicted.ensures.state)) c.requires.kept.home
-
-pub evict-release-requires-clause-held : goal.evict-release-requires-clause-held
-evict-release-requires-clause-held c =
+pub delay-before-requires-clause-place : goal.delay-before-requires-clause-place
+delay-before-requires-clause-place g c =
     let old = c.args.self.now in
-    let P : List ℕ → Type 0 = λ pages. IfSome c.put_off-evicted.result (IsHeldPlace pages) in
-    subst P (sym (held-put_off old.state c.draw-word.new.self c.put_off-evicted.new.self (c.draw-word.result % 16) c.args.place c.draw-word.ensures.same c.put_off-evicted.ensures.state))
-    (evicted-held-if (rules_in old.state) (state_in old.state) (core-sound old c.requires.kept) refl (c.draw-word.result % 16) c.put_off-evicted.result
-    (c.put_off-evicted.ensures.evicted ∙ ap (λ (x : Holdings). slot_of (state_in x) (c.draw-word.result % 16)) c.draw-word.ensures.same))
+    let place = c.args.place in
+    let here = lives (rules_in old.state) (tables_in old.state) (core_state old) (core-sound old c.requires.kept) c.requires.kept.tables (core-served old c.requires.kept) c.args.address place c.requires.live.0 c.requires.live.1 in
+    ap (λ (x : Holdings). is_some (place_in x.chunks.pages place.address)) c.draw-word.ensures.same
+    ∙ ap (λ a. is_some (place_in old.state.chunks.pages a)) here.place_is ∙ ap is_some here.has_is
 
-pub evict-release-requires-clause-zones : goal.evict-release-requires-clause-zones
-evict-release-requires-clause-zones c = c.requires.kept.zones.zones
+pub fill_freed-requires-clause-class : goal.fill_freed-requires-clause-class
+fill_freed-requires-clause-class g c =
+    let old = c.args.self.now in
+    (lives (rules_in old.state) (tables_in old.state) (core_state old) (core-sound old c.requires.kept) c.requires.kept.tables (core-served old c.requires.kept) c.args.address c.args.place c.requires.live.0 c.requires.live.1).class_is
 
-pub evict-release-requires-clause-versions : goal.evict-release-requires-clause-versions
-evict-release-requires-clause-versions c = core_can_move c.args.self.now c.requires.kept c.requires.room.short
+pub fill_freed-requires-clause-bytes : goal.fill_freed-requires-clause-bytes
+fill_freed-requires-clause-bytes g c =
+    let old = c.args.self.now in
+    let Holds : List (List ℕ) → Type 0 = λ m. HoldsPlace m c.args.place in
+    subst Holds (sym (ap (λ (t : Tables). t.memory) c.delay-before.ensures.tables ∙ ap (λ (x : Holdings). x.shelf) c.draw-word.ensures.same))
+    (place-bytes (rules_in old.state) (tables_in old.state) (core_state old) (core-sound old c.requires.kept) c.requires.kept.tables (core-served old c.requires.kept) c.args.address c.args.place c.requires.live.0 c.requires.live.1)
+
+pub evict-release-requires-clause-place : goal.evict-release-requires-clause-place
+evict-release-requires-clause-place g c =
+    let old = c.args.self.now in
+    let is = c.requires.kept in
+    let rules = rules_in old.state in
+    let tables = tables_in old.state in
+    let start = core_state old in
+    let slot : ℕ = c.draw-word.result % 16 in
+    let draws = c.draw-word.ensures.same in
+    let waits = c.delay-before.ensures in
+    let fills = c.fill_freed.ensures in
+    let was = sym (waits.before ∙ ap (λ (x : Holdings). slice_index_or x.slots slot None) draws ∙ ap (λ (slots : List (Option Place)). slice_index_or slots slot None) is.tables.slots) in
+    if-some (IsThere c.fill_freed.new.self) c.delay-before.result (λ gone gone_is.
+    gone-there rules tables (drawn_more 1 start) (drawn_more-sound rules 1 start (core-sound old is)) (words-drawn rules tables start is.tables 1) (core-served old is) c.args.address c.args.place c.requires.live.0 c.requires.live.1
+    slot (mod_below c.draw-word.result 16 (omega arith)) gone (was ∙ gone_is) c.fill_freed.new.self
+    (filled-tables old.state c.draw-word.new.self c.delay-before.new.self c.fill_freed.new.self slot c.args.place draws waits.tables waits.same fills.tables fills.same) is.few_zones)
+
+pub evict-release-requires-clause-has : goal.evict-release-requires-clause-has
+evict-release-requires-clause-has g c =
+    let old = c.args.self.now in
+    let is = c.requires.kept in
+    let rules = rules_in old.state in
+    let tables = tables_in old.state in
+    let start = core_state old in
+    let b = c.args.broker.now in
+    let slot : ℕ = c.draw-word.result % 16 in
+    let was = sym (c.delay-before.ensures.before ∙ ap (λ (x : Holdings). slice_index_or x.slots slot None) c.draw-word.ensures.same ∙ ap (λ (slots : List (Option Place)). slice_index_or slots slot None) is.tables.slots) in
+    if-some (λ place. HasFrames (g.B.Broker.made b) (zero_frames (page_at place.address) 1)) c.delay-before.result (λ gone gone_is.
+    lets-has g.B.Broker rules start.held old.journal.items b (page_at gone.address) (zero_frames (page_at gone.address) 1) c.requires.backed
+    (gone-is_held rules tables (drawn_more 1 start) (drawn_more-sound rules 1 start (core-sound old is)) (words-drawn rules tables start is.tables 1) (core-served old is) c.args.address c.args.place c.requires.live.0 c.requires.live.1
+    slot (mod_below c.draw-word.result 16 (omega arith)) gone (was ∙ gone_is))
+    refl)
 
 pub returns : goal.returns
-returns c =
+returns g c =
     let old = c.args.self.now in
     let new = c.enter_free.new.self in
+    let is = c.requires.kept in
     let rules = rules_in old.state in
-    let state = state_in old.state in
+    let tables = tables_in old.state in
+    let start = core_state old in
+    let state = drawn_more 1 start in
+    let place = c.args.place in
     let slot : ℕ = c.draw-word.result % 16 in
-    let before = c.put_off-evicted.result in
-    let drawn = c.draw-word.ensures.same in
+    let before = c.delay-before.result in
+    let release = c.evict-release.result in
+    let b = c.args.broker.now in
+    let b_new = c.evict-release.new.broker in
+    let own = c.fill_freed.new.self in
+    let draws = c.draw-word.ensures.same in
+    let waits = c.delay-before.ensures in
+    let fills = c.fill_freed.ensures in
     let same = c.enter_free.ensures.same in
-    let put : state_in c.put_off-evicted.new.self ≡ put_off rules (drawn_more 1 state) slot c.args.place = c.put_off-evicted.ensures.state ∙ ap (λ (x : Holdings). put_off (rules_in x) (state_in x) slot c.args.place) drawn in
-    let ruled : rules_in c.put_off-evicted.new.self ≡ rules = c.put_off-evicted.ensures.rules ∙ ap rules_in drawn in
-    let left : Freed = evicted rules (put_off rules (drawn_more 1 state) slot c.args.place) before in
-    let is_left : evicted (rules_in c.put_off-evicted.new.self) (state_in c.put_off-evicted.new.self) before ≡ left =
-    ap (λ r. evicted r (state_in c.put_off-evicted.new.self) before) ruled ∙ ap (λ s. evicted rules s before) put in
-    let was = c.put_off-evicted.ensures.evicted ∙ ap (λ (x : Holdings). slot_of (state_in x) slot) drawn in
-    let held = held-put_off old.state c.draw-word.new.self c.put_off-evicted.new.self slot c.args.place drawn c.put_off-evicted.ensures.state in
-    let Gives : Freed → Type 0 = λ l. GivesUp l.release c.evict-release.result in
-    let Home : Core → Type 0 = λ x. IsHome x.state.held.items x.home in
-    let Zones : List ℕ → ZoneTable → List ℕ → Type 0 = λ pages z after. IsLeft old.zones z pages after c.evict-release.result in
-    let does = unasked-does old new c.args.who (Free c.args.address) _ _ (done_with 1 left) c.one.result c.evict-release.result c.requires.kept
+    let word : c.draw-word.result ≡ word_at rules start.drawn = c.draw-word.ensures.word ∙ ap (word_at rules) is.drawn in
+    let was : slot_of state slot ≡ before = sym (waits.before ∙ ap (λ (x : Holdings). slice_index_or x.slots slot None) draws ∙ ap (λ (slots : List (Option Place)). slice_index_or slots slot None) is.tables.slots) in
+    let filled : Tables = freed_filled rules place (delayed_place tables slot place) in
+    let is_filled : tables_in own ≡ filled = filled-tables old.state c.draw-word.new.self c.delay-before.new.self own slot place draws waits.tables waits.same fills.tables fills.same in
+    let ruled : rules_in own ≡ rules = filled-rules old.state c.draw-word.new.self c.delay-before.new.self own slot place draws waits.tables waits.same fills.tables fills.same in
+    let words : own.words.place ≡ old.state.words.place + 1 = filled-words old.state c.draw-word.new.self c.delay-before.new.self own slot place draws waits.tables waits.same fills.tables fills.same in
+    let evicts = has-evicted g.B.Broker (record old { state = own }) c.evict-release.new.self b b_new before release c.evict-release.ensures in
+    let Gives : Rules → Tables → Type 0 = λ r t. GivesOf g.B.Broker r t b b_new before release in
+    let gives : Gives rules filled = subst (Gives rules) is_filled (subst (λ r. Gives r (tables_in own)) ruled evicts.gives) in
+    let left : Freed = evicted rules (put_off rules state slot place) before in
+    let leaves = put-off-leaves rules tables state (drawn_more-sound rules 1 start (core-sound old is)) (words-drawn rules tables start is.tables 1) (core-served old is) c.args.address place c.requires.live.0 c.requires.live.1
+    slot (mod_below c.draw-word.result 16 (omega arith)) g.B.Broker before was b b_new release gives in
+    let stood : tables_in new.state ≡ left_tables rules filled before =
+    ap (λ (x : Core). tables_in x.state) same ∙ evicts.tables ∙ ap (λ r. left_tables r (tables_in own) before) ruled ∙ ap (λ t. left_tables rules t before) is_filled in
+    let Stands : Tables → Type 0 = λ t. StandFor rules t left.next in
+    let step_is = ap (free_at rules start c.args.address) c.requires.live.1 ∙ delay-is rules start place slot before (ap (λ w. w % 16) word) (sym was) in
+    let added = c.enter_free.ensures.added ∙ ap (λ (x : Core). x.journal.items ++ Call (entry_with c.args.who (Free c.args.address) reply.Done c.one.result no_answers release) ∷ []) evicts.same in
+    let does = unasked-does old new c.args.who (Free c.args.address) reply.Done _ (done_with 1 left) c.one.result release is
     (record {
       wish = refl;
       whole_is = refl;
-      step_is = c.requires.is ∙ delay-is rules state c.args.place slot before (ap (λ w. w % 16) c.draw-word.ensures.word) was;
-      gives_up = subst Gives is_left c.evict-release.ensures.gives_up;
-      words_are = c.one.ensures ∙ ap (λ w. w ∷ []) c.draw-word.ensures.word;
-      next = ap (λ (x : Core). state_in x.state) same ∙ c.evict-release.ensures.next ∙ ap (λ (l : Freed). l.next) is_left;
-      rules = ap (λ (x : Core). rules_in x.state) same ∙ c.evict-release.ensures.rules ∙ ruled;
-      canary = ap (λ (x : Core). x.canary) same ∙ ap (λ (x : Core). x.canary) c.evict-release.ensures.same;
-      room = ap (λ (x : Core). x.room) same ∙ ap (λ (x : Core). x.room) c.evict-release.ensures.same;
-      home = subst Home (sym same) c.evict-release.ensures.home;
-      left =
-          subst (λ pages. Zones pages new.zones new.state.held.items) held
-          (subst (λ z. Zones c.put_off-evicted.new.self.held.items z new.state.held.items) (sym (ap (λ (x : Core). x.zones) same))
-          (subst (Zones c.put_off-evicted.new.self.held.items c.evict-release.new.self.zones) (sym (ap (λ (x : Core). x.state.held.items) same)) c.evict-release.ensures.zones));
+      step_is = step_is;
+      gives_up = leaves.gives_up;
+      words_are = c.one.ensures ∙ ap (λ w. w ∷ []) word;
+      tables = subst Stands (sym stood) leaves.stands;
+      drawn = ap (λ (x : Core). x.state.words.place) same ∙ ap (λ (w : WordSource). w.place) evicts.state.words ∙ words ∙ ap (λ n. n + 1) is.drawn ∙ sym leaves.drawn_is;
+      rules = ap (λ (x : Core). rules_in x.state) same ∙ same-rules own c.evict-release.new.self.state evicts.state ∙ ruled;
+      canary = ap (λ (x : Core). x.canary) same ∙ ap (λ (x : Core). x.canary) evicts.same;
+      room = ap (λ (x : Core). x.room) same ∙ ap (λ (x : Core). x.room) evicts.same;
     })
-    refl
-    (c.enter_free.ensures.added ∙ ap (λ (x : Core). x.journal.items ++ Call (entry_with c.args.who (Free c.args.address) reply.Done c.one.result no_answers c.evict-release.result) ∷ []) c.evict-release.ensures.same) in
-    record { kept = kept old new _ _ _ _ _ _ _ c.requires.kept does; taken = taken old new _ _ _ _ _ _ _ c.requires.kept does }
+    refl added in
+    let after : (core_state new).held ≡ (left.next).held = ap (λ (s : State). s.held) (left_after old new _ _ _ _ _ _ _ is does) ∙ ap (λ (s : Step). (s.next).held) step_is in
+    let Left : List ℕ → Type 0 = λ pages. IsLeft g.B.Broker b b_new start.held pages release in
+    let left_is : IsLeft g.B.Broker b b_new start.held (core_state new).held release = subst Left (sym after) leaves.broker in
+    record {
+      kept = kept old new _ _ _ _ _ _ _ is does;
+      backed = backed-let_go g.B.Broker old new b b_new c.args.who (Free c.args.address) reply.Done c.one.result release does.rules left_is added c.requires.backed;
+      uses = uses-left g.B.Broker old new b b_new reply.Done release (core-sound old is).ascends left_is refl;
+      taken = taken old new _ _ _ _ _ _ _ is does;
+    }

@@ -1,73 +1,33 @@
-use Rattle.std.proofs.Common.{◌≡◌, ℕ, ◌&&◌, true, false, Option, Some, None, IfSome, refl, sym, subst, ap, ◌∙◌, arith}
-use Rattle.std.proofs.lemmas.Bool.{and_parts}
-use Rattle.om_model.specs.Pool.Free.{Freed, evicted, is_surplus}
-use Rattle.om_model.specs.Pool.InUse.{is_free_page}
-use Rattle.om_model.specs.Pool.Journal.{GivesUp}
-use Rattle.om_model.specs.Pool.State.{State, is_held, without_pages}
+use Rattle.std.proofs.Common.{◌≡◌, true, List, Option, IfSome, if◌then◌else◌, refl, sym, subst, ap, ◌∙◌, arith}
+use Rattle.om_geom.specs.Addresses.{page_at}
 use Rattle.om_model.specs.declared.block.Place.{Place}
-use Rattle.om_pool.specs.Freeing.{IsHeldPlace}
-use Rattle.om_pool.specs.HoldingsView.{rules_in, state_in, uses_in}
-use Rattle.om_pool.specs.Zones.{one_page}
-use Rattle.om_pool.proofs.FreeLaws.{evicted-kept, evicted-gone, gives-page}
+use Rattle.om_pages.specs.Kinds.{is_free}
+use Rattle.om_pages.specs.TableLaws.{with_run-all}
+use Rattle.om_pages.specs.Tables.{AreAll, with_run}
+use Rattle.om_pages.specs.declared.kind.PageKind.{PageKind}
+use Rattle.om_pages.specs.declared.kind.PageKind.TheVariants as page_is
+use Rattle.om_pool.specs.Freeing.{IsThere}
+use Rattle.om_pool.specs.HoldingsView.{tables_in}
+use Rattle.om_pool.specs.TableSteps.{page_goes}
+use Rattle.om_pool.specs.Tables.{Tables}
+use Rattle.om_pool.proofs.TableRuns.{all-moved}
 use Rattle.om_pool.proofs.pool_core.Core.evict.Goals as goal
 
-pub leave-requires-clause-held : goal.leave-requires-clause-held
-leave-requires-clause-held c =
-    let own = c.args.self.now.state in
-    let Held : Option Place → Type 0 = λ o. IfSome o (IsHeldPlace own.held.items) in
-    let on : IsHeldPlace own.held.items c.in_ok-place.place = subst Held c.in_ok-place.was c.requires.held in
-    let HeldAt : ℕ → Type 0 = λ p. is_held own.held.items p ≡ true in
-    subst HeldAt (sym c.page_at-page.ensures) on.held_is
+pub overflow_cast-page_at : goal.overflow_cast-page_at
+overflow_cast-page_at g c =
+    let There : Option Place → Type 0 = λ o. IfSome o (IsThere c.args.self.now.state) in
+    let here : IsThere c.args.self.now.state c.in_ok-place.place = subst There c.in_ok-place.was c.requires.place in
+    omega (arith, here.low, c.page_at.ensures)
 
-pub leave-requires-clause-there : goal.leave-requires-clause-there
-leave-requires-clause-there c =
+pub leave-frames-requires-clause-free : goal.leave-frames-requires-clause-free
+leave-frames-requires-clause-free g c =
     let own = c.args.self.now.state in
-    let Held : Option Place → Type 0 = λ o. IfSome o (IsHeldPlace own.held.items) in
-    let on : IsHeldPlace own.held.items c.in_ok-place.place = subst Held c.in_ok-place.was c.requires.held in
-    omega (arith, c.page_at-page.ensures, on.there)
-
-pub returns-then-becomes_surplus : goal.returns-then-becomes_surplus
-returns-then-becomes_surplus c =
-    let own = c.args.self.now.state in
-    let rules = rules_in own in
-    let state = state_in own in
-    let page = c.page_at-page.result in
-    let place = c.in_ok-place.place in
-    let page_is = c.page_at-page.ensures in
-    let move = c.release-release.result in
-    let both = and_parts (is_free_page (uses_in own) page) (is_surplus rules state) (sym c.becomes_surplus.ensures ∙ c.if-becomes_surplus.true) in
-    let Free : ℕ → Type 0 = λ p. is_free_page (uses_in own) p ≡ true in
-    let gone =
-    ap (evicted rules state) c.in_ok-place.was
-    ∙ evicted-gone rules state place (subst Free page_is both.0) both.1
-    ∙ ap (λ p. let left : Freed = record { release = Some (one_page p); next = without_pages (one_page p) state } in left) (sym page_is) in
-    let Held : Option Place → Type 0 = λ o. IfSome o (IsHeldPlace own.held.items) in
-    let on : IsHeldPlace own.held.items place = subst Held c.in_ok-place.was c.requires.held in
-    let HeldAt : ℕ → Type 0 = λ p. is_held own.held.items p ≡ true in
-    let Gives : Freed → Type 0 = λ l. GivesUp l.release (Some move) in
-    record {
-      rules = ap rules_in c.leave.ensures.same;
-      next = c.leave.ensures.state ∙ sym (ap (λ (l : Freed). l.next) gone);
-      gives_up = subst Gives (sym gone) (gives-page c.args.self.now.zones c.release-release.new.self page move c.release-release.ensures);
-      zones = (page, record { held = subst HeldAt (sym page_is) on.held_is; there = omega (arith, page_is, on.there); released = c.release-release.ensures; left = ap (λ (s : State). s.held) c.leave.ensures.state });
-      home = c.leave.ensures.home;
-      same = rw c.leave.ensures.same refl;
-    }
-
-pub returns-else-becomes_surplus : goal.returns-else-becomes_surplus
-returns-else-becomes_surplus c =
-    let own = c.args.self.now.state in
-    let rules = rules_in own in
-    let state = state_in own in
-    let place = c.in_ok-place.place in
-    let Few : ℕ → Type 0 = λ p. (is_free_page (uses_in own) p && is_surplus rules state) ≡ false in
-    let stays = ap (evicted rules state) c.in_ok-place.was ∙ evicted-kept rules state place (subst Few c.page_at-page.ensures (sym c.becomes_surplus.ensures ∙ c.if-becomes_surplus.false)) in
-    let Gives : Freed → Type 0 = λ l. GivesUp l.release None in
-    record {
-      rules = refl;
-      next = sym (ap (λ (l : Freed). l.next) stays);
-      gives_up = subst Gives (sym stays) (record { run_is = refl; inside = tt });
-      zones = (refl, refl);
-      home = c.requires.home;
-      same = refl;
-    }
+    let There : Option Place → Type 0 = λ o. IfSome o (IsThere own) in
+    let here : IsThere own c.in_ok-place.place = subst There c.in_ok-place.was c.requires.place in
+    let page = page_at c.in_ok-place.place.address in
+    let goes : page_goes (tables_in own) c.in_ok-place.place.address ≡ true = sym c.set_free.ensures.goes ∙ c.if-set_free.true in
+    let pages = ap (λ (t : Tables). t.pages) c.set_free.ensures.tables ∙ ap (λ b. if b then with_run own.pages page 1 page_is.Free else own.pages) goes in
+    let All : List PageKind → Type 0 = λ t. AreAll is_free t page 1 in
+    let low = (here.held page (omega arith) (omega arith)).0 in
+    all-moved is_free c.set_free.new.self.pages c.page_at.result page c.page_at.ensures
+    (subst All (sym pages) (with_run-all is_free own.pages page 1 page_is.Free (omega arith) refl page 1 (omega arith) (omega arith)))

@@ -1,5 +1,54 @@
-use Rattle.om_pool.proofs.CoreLaws.{core_formed}
+use Rattle.std.proofs.Common.{sym, ap, ◌∙◌}
+use mathlib.Core.Logic.{⊎_elim}
+use Rattle.om_model.specs.Pool.Standing as at
+use Rattle.om_model.specs.declared.operation.Op.TheVariants.{Free}
+use Rattle.om_pool.specs.Standings.{standing_of}
+use Rattle.om_pool.proofs.CallLaws.{backed-quiet}
+use Rattle.om_pool.proofs.CoreLaws.{core-tied}
+use Rattle.om_pool.proofs.FreeLaws.{frees-at, stands-at}
 use Rattle.om_pool.proofs.pool_core.Core.free.Goals as goal
 
 pub standing-requires : goal.standing-requires
-standing-requires c = core_formed c.args.self.now c.requires.kept
+standing-requires g c = core-tied c.args.self.now c.requires.kept
+
+pub answer-requires-clause-is : goal.answer-requires-clause-is
+answer-requires-clause-is g c = frees-at c.args.self.now c.requires.kept c.args.address at.NotHeld (sym (ap standing_of c.in-NotHeld.is) ∙ c.standing.ensures)
+
+pub answer-requires-in-FreePage-clause-is : goal.answer-requires-in-FreePage-clause-is
+answer-requires-in-FreePage-clause-is g c = ⊎_elim
+    (λ is. frees-at c.args.self.now c.requires.kept c.args.address at.FreePage (sym (ap standing_of is) ∙ c.standing.ensures))
+    (⊎_elim
+    (λ is. frees-at c.args.self.now c.requires.kept c.args.address at.InPageBlock (sym (ap standing_of is) ∙ c.standing.ensures))
+    (λ is. frees-at c.args.self.now c.requires.kept c.args.address at.OnGuard (sym (ap standing_of is) ∙ c.standing.ensures)))
+    c.in-FreePage.is
+
+pub answer-requires-in-Unaligned-clause-is : goal.answer-requires-in-Unaligned-clause-is
+answer-requires-in-Unaligned-clause-is g c = frees-at c.args.self.now c.requires.kept c.args.address at.Unaligned (sym (ap standing_of c.in-Unaligned.is) ∙ c.standing.ensures)
+
+pub answer-requires-in-FreePlace-clause-is : goal.answer-requires-in-FreePlace-clause-is
+answer-requires-in-FreePlace-clause-is g c = frees-at c.args.self.now c.requires.kept c.args.address at.FreePlace (sym (ap standing_of c.in-FreePlace.is) ∙ c.standing.ensures)
+
+pub free_again-requires-clause-is : goal.free_again-requires-clause-is
+free_again-requires-clause-is g c =
+    frees-at c.args.self.now c.requires.kept c.args.address (at.DelayedPlace c.in-DelayedPlace.place) (sym (ap standing_of c.in-DelayedPlace.is) ∙ c.standing.ensures)
+
+pub delay-requires-clause-live : goal.delay-requires-clause-live
+delay-requires-clause-live g c = (
+  c.in-LivePlace.block,
+  stands-at c.args.self.now c.requires.kept c.args.address (at.LivePlace c.in-LivePlace.place c.in-LivePlace.block) (sym (ap standing_of c.in-LivePlace.is) ∙ c.standing.ensures),
+)
+
+pub returns-in-NotHeld-clause-backed : goal.returns-in-NotHeld-clause-backed
+returns-in-NotHeld-clause-backed g c = backed-quiet g.B.Broker c.args.self.now c.answer.new.self c.args.broker.now c.args.who (Free c.args.address) c.answer.result c.answer.ensures.quiet c.requires.backed
+
+pub returns-in-FreePage-clause-backed : goal.returns-in-FreePage-clause-backed
+returns-in-FreePage-clause-backed g c = backed-quiet g.B.Broker c.args.self.now c.answer-in-FreePage.new.self c.args.broker.now c.args.who (Free c.args.address) c.answer-in-FreePage.result c.answer-in-FreePage.ensures.quiet c.requires.backed
+
+pub returns-in-Unaligned-clause-backed : goal.returns-in-Unaligned-clause-backed
+returns-in-Unaligned-clause-backed g c = backed-quiet g.B.Broker c.args.self.now c.answer-in-Unaligned.new.self c.args.broker.now c.args.who (Free c.args.address) c.answer-in-Unaligned.result c.answer-in-Unaligned.ensures.quiet c.requires.backed
+
+pub returns-in-FreePlace-clause-backed : goal.returns-in-FreePlace-clause-backed
+returns-in-FreePlace-clause-backed g c = backed-quiet g.B.Broker c.args.self.now c.answer-in-FreePlace.new.self c.args.broker.now c.args.who (Free c.args.address) c.answer-in-FreePlace.result c.answer-in-FreePlace.ensures.quiet c.requires.backed
+
+pub returns-in-DelayedPlace-clause-backed : goal.returns-in-DelayedPlace-clause-backed
+returns-in-DelayedPlace-clause-backed g c = backed-quiet g.B.Broker c.args.self.now c.free_again.new.self c.args.broker.now c.args.who (Free c.args.address) c.free_again.result c.free_again.ensures.quiet c.requires.backed

@@ -1,0 +1,478 @@
+-- Tables after a live place entered a slot: it is delayed, and the place that the slot had is free, and so is that
+-- one's page where nothing is left on it.
+use Rattle.std.proofs.Common.{◌≡◌, ℕ, ◌*◌, ◌<◌, Bool, true, false, not, ◌==◌, if◌then◌else◌, List, [], ◌∷◌, length, length-set, map, cond, Option, Some, None, IfSome, IsSome, IsTrue, is_some, inl, inr, refl, sym, ap, ◌∙◌, subst, arith}
+use Rattle.std.specs.Prelude.{slice_set}
+use Rattle.std.specs.List.{AllByRecursion, filter, find, flat_map, list_all, list_any, range_with_len}
+use Rattle.std.specs.Option.{is_none, option_and_then, option_map}
+use Rattle.std.proofs.lemmas.Bool.{true≢false, cases_Bool, cases_eq, cases_lt, eqb-true, eq-eqb, le-leb, ne_eqb, not_from_false}
+use Rattle.std.proofs.lemmas.List.{get_or-set_same, get_or-set_other}
+use Rattle.std.proofs.lemmas.List.Folds.{list_all-map}
+use mathlib.Core.Logic.{⊎_elim}
+use Rattle.om_chunk.specs.Pages.{page_in, page_with, page_left, place_in, offset_of, unless_unused, with_freed, with_place}
+use Rattle.om_chunk.specs.Places.{ChunkPage, is_free, is_unused, with_place_at}
+use Rattle.om_chunk.specs.declared.place.Place as chunk
+use Rattle.om_chunk.specs.declared.place.Place.TheVariants as has
+use Rattle.om_chunk.proofs.PageLaws.{kept-freed}
+use Rattle.om_geom.specs.Addresses.{page_at, page_extent}
+use Rattle.om_geom.specs.AddressLaws.{SharesByte-true}
+use Rattle.om_geom.specs.Classes.{is_class, places_of}
+use Rattle.om_geom.specs.FitLaws.{find-passes, list_all-range, list_all-range_from}
+use Rattle.om_geom.specs.Numbers.{first_address, zone_pages}
+use Rattle.om_model.specs.Pool.Free.{without_block, slot_of, into_slot}
+use Rattle.om_model.specs.Pool.InUse.{Kind, Chunk, Use, use_of_place, uses_by_class, uses_of_block, uses, touches, page_kind, is_free_page}
+use Rattle.om_model.specs.Pool.Journal.{AreServed, is_served}
+use Rattle.om_model.specs.Pool.Picks.{place_address}
+use Rattle.om_model.specs.Pool.Rules.{Rules, size_class}
+use Rattle.om_model.specs.Pool.Standing.{block_at, delayed_at}
+use Rattle.om_model.specs.Pool.State.{State, slot_count, delayed, is_held}
+use Rattle.om_model.specs.Pool.WellFormed.{BeginsRight}
+use Rattle.om_model.specs.declared.block.Block.{Block}
+use Rattle.om_model.specs.declared.block.Place.{Place}
+use Rattle.om_model.proofs.Each.{all-weaker, all-both, all-each, all-append, all-first, all-second, all-filter, any-none, pairs-second, pairs-across}
+use Rattle.om_model.proofs.Free.{of-block, of-left}
+use Rattle.om_model.proofs.Malloc.{chunk-uses}
+use Rattle.om_model.proofs.PageKinds.{all-have, without_block-others, into_slot-kind}
+use Rattle.om_model.proofs.Places.{IsUntouched, untouched-free}
+use Rattle.om_model.proofs.Sound.{IsPlaced, IsSound, GoTogether, first_of, place-at, place-kind, shape-chunk, same_class, together-swap, touches-first, touches-place, well-formed}
+use Rattle.om_pages.specs.Tables.{kind_of, with_run}
+use Rattle.om_pages.specs.TableLaws.{length-with_run, kind_of-with_run_in, kind_of-with_run_out}
+use Rattle.om_pages.specs.declared.kind.PageKind.{PageKind}
+use Rattle.om_pages.specs.declared.kind.PageKind.TheVariants as table
+use Rattle.om_pool.specs.Tables.{Tables, StandFor, block_on, kind_by, kind_in, has_by, place_has}
+use Rattle.om_pool.proofs.TableAnswers.{place-there}
+use Rattle.om_pool.proofs.Slots.{waiting, slot-has, slot-found, slot-other, slot-all, slot-related}
+use Rattle.om_pool.proofs.TableSteps.{page_by, chunk_page_by, Shows, Unbegun, pages_in, kinds_of, kind-class, vacant, vacant-free, free-places, same-table, shows, kind-stays, place-shown}
+
+-- ---- what is found, and what is in use
+
+skipped : (a b : ℕ) (x : Block) (xs : List Block) (gone : Bool) → (x.address == b) ≡ gone → (x.address == a) ≡ false → find (λ block. block.address == a) (filter (λ block. not (block.address == b)) xs) ≡ find (λ block. block.address == a) xs
+    → find (λ block. block.address == a) (filter (λ block. not (block.address == b)) (x ∷ xs)) ≡ find (λ block. block.address == a) xs
+skipped a b x xs true is f rest = rw is rest
+skipped a b x xs false is f rest = rw is (rw f rest)
+
+find-left : (a b : ℕ) → ¬ (a ≡ b) → (live : List Block) → find (λ block. block.address == a) (filter (λ block. not (block.address == b)) live) ≡ find (λ block. block.address == a) live
+find-left a b ne [] = refl
+find-left a b ne (x ∷ xs) =
+    let rest = find-left a b ne xs in
+    ⊎_elim
+    (λ t. let kept : (x.address == b) ≡ false = ne_eqb x.address b (λ e. ne (sym (eqb-true x.address a t) ∙ e)) in rw kept (rw t refl))
+    (λ f.
+    skipped a b x xs (x.address == b) refl f rest
+    ∙ sym (ap (λ b. cond b (Some x) (find (λ (block : Block). block.address == a) xs)) f))
+    (cases_Bool (x.address == a))
+
+has-delayed : (place : Option Place) (block : Option Block) → is_some place ≡ true → has_by place block ≡ has.Delayed
+has-delayed None block some = cc
+has-delayed (Some place) block some = refl
+
+has-none : (place : Option Place) (block : Option Block) → is_free (has_by place block) ≡ true → (place ≡ None) × (block ≡ None)
+has-none None None free = (refl, refl)
+has-none None (Some block) free = cc
+has-none (Some place) block free = cc
+
+untouched-kind : (used : List Use) (page : ℕ) → IsUntouched used page → page_kind used page ≡ None
+untouched-kind [] page all = refl
+untouched-kind (x ∷ xs) page all = rw all.0 (untouched-kind xs page all.1)
+
+-- the block of a page tells nothing more of it
+abbrev IsPlain : Use → Type 0
+IsPlain one = (a b : Option Block) → kind_by a (Some one.kind) ≡ kind_by b (Some one.kind)
+
+plain-page : (used : List Use) (page : ℕ) (a b : Option Block) → AllByRecursion IsPlain used → kind_by a (page_kind used page) ≡ kind_by b (page_kind used page)
+plain-page [] page a b all = refl
+plain-page (x ∷ xs) page a b all = ⊎_elim (λ t. rw t (all.0 a b)) (λ f. rw f (plain-page xs page a b all.1)) (cases_Bool (touches page x))
+
+-- where all live blocks are chunks
+module _ (rules : Rules) where
+  plain-live : (live : List Block) → AllByRecursion (λ block. is_served rules block.size ≡ true) live → AllByRecursion IsPlain (flat_map (uses_of_block rules) live)
+  plain-live [] served = tt
+  plain-live (block ∷ live) served = all-append IsPlain (uses_of_block rules block) (flat_map (uses_of_block rules) live) (by (size_class rules block.size) served.0) (plain-live live served.1)
+    where
+      by : (class : Option ℕ) → is_some class ≡ true → AllByRecursion IsPlain (uses_by_class rules block class)
+      by (Some class) some = ((λ a b. refl), tt)
+      by None some = cc
+
+  plain-waiting : (places : List Place) → AllByRecursion IsPlain (map use_of_place places)
+  plain-waiting [] = tt
+  plain-waiting (place ∷ places) = ((λ a b. refl), plain-waiting places)
+
+  unbegun-live : (address : ℕ) (live : List Block) → AllByRecursion (λ block. is_served rules block.size ≡ true) live → find (λ block. block.address == address) live ≡ None
+      → AllByRecursion (Unbegun address) (flat_map (uses_of_block rules) live)
+  unbegun-live address [] served none = tt
+  unbegun-live address (block ∷ live) served none = ⊎_elim
+      (λ t. let found : Some block ≡ None = rw t at none in cc)
+      (λ f. all-append (Unbegun address) (uses_of_block rules block) (flat_map (uses_of_block rules) live) (by (size_class rules block.size) served.0 f) (unbegun-live address live served.1 (rw f at none)))
+      (cases_Bool (block.address == address))
+    where
+      by : (class : Option ℕ) → is_some class ≡ true → (block.address == address) ≡ false → AllByRecursion (Unbegun address) (uses_by_class rules block class)
+      by (Some class) some isnt = (isnt, tt)
+      by None some isnt = cc
+
+  unbegun-waiting : (address : ℕ) (places : List Place) → find (λ place. place.address == address) places ≡ None → AllByRecursion (Unbegun address) (map use_of_place places)
+  unbegun-waiting address [] none = tt
+  unbegun-waiting address (place ∷ places) none = ⊎_elim
+      (λ t. let found : Some place ≡ None = rw t at none in cc)
+      (λ f. (f, unbegun-waiting address places (rw f at none)))
+      (cases_Bool (place.address == address))
+
+  module _ (state : State) (served : AreServed rules state) where
+    plain : (page : ℕ) (a b : Option Block) → kind_by a (kinds_of rules state page) ≡ kind_by b (kinds_of rules state page)
+    plain page a b =
+        plain-page (uses rules state) page a b
+        (all-append IsPlain (flat_map (uses_of_block rules) state.live) (waiting state.slots) (plain-live state.live served) (plain-waiting (delayed state.slots)))
+
+    -- where a place is free nothing begins
+    free-unbegun : (address : ℕ) → is_free (place_has state address) ≡ true → AllByRecursion (Unbegun address) (uses rules state)
+    free-unbegun address free =
+        let none = has-none (delayed_at state address) (block_at state address) free in
+        all-append (Unbegun address) (flat_map (uses_of_block rules) state.live) (waiting state.slots) (unbegun-live address state.live served none.1) (unbegun-waiting address (delayed state.slots) none.0)
+
+    -- a page of chunks is free exactly where its places are
+    unused-page : IsSound rules state → (page class : ℕ) → IsTrue (is_class class) → (is_free_page (uses rules state) page ≡ false → kinds_of rules state page ≡ Some (Chunk class))
+        → is_unused (page_by (place_has state) page class) ≡ is_free_page (uses rules state) page
+    unused-page is page class is_one kind_is =
+        let used = uses rules state in
+        let sound = is.sound in
+        let n = places_of class in
+        let shown : ℕ → chunk.Place = λ i. place_has state (place_address page class i) in
+        list_all-map is_free shown (range_with_len 0 n)
+        ∙ ⊎_elim
+        (λ free. list_all-range_from (λ i. is_free (shown i)) 0 n (λ i from low. ap is_free (free-places rules state is page class is_one (untouched-free used page free) i (omega arith))) ∙ sym free)
+        (λ in_use. ⊎_elim
+        (λ all.
+        let Here : Use → Type 0 = λ one. (i : ℕ) → i < n → Unbegun (place_address page class i) one in
+        let unbegun : AllByRecursion Here used = all-each (λ i. i < n) (λ i. Unbegun (place_address page class i)) used
+        (λ i low. free-unbegun (place_address page class i) (list_all-range (λ i. is_free (shown i)) 0 n all i (omega arith) (omega arith))) in
+        let OfKind : Use → Type 0 = λ one. touches page one ≡ true → Some one.kind ≡ page_kind used page in
+        let untouched = all-both Here (λ one. IsPlaced rules state.held one × OfKind one) (λ one. touches page one ≡ false) used
+        (λ one none both. ⊎_elim
+        (λ touched.
+        let kind : one.kind ≡ Chunk class = let same : Some one.kind ≡ Some (Chunk class) = both.1 touched ∙ kind_is in_use in cc in
+        let on = shape-chunk one class kind (both.0).shape in
+        let here : on.page ≡ page = eqb-true on.page page (sym (touches-place one on page) ∙ touched) in
+        let same : on.class ≡ class = same_class on.class class (sym (place-kind one on) ∙ kind) in
+        let first : first_of one ≡ place_address page class on.index = ap first_of on.one_is ∙ ap (λ p. place_address p on.class on.index) here ∙ ap (λ c. place_address page c on.index) same in
+        let low : on.index < n = subst (λ c. on.index < places_of c) same on.below in
+        absurd (true≢false (sym (eq-eqb (first_of one) (place_address page class on.index) first) ∙ none on.index low)))
+        (λ isnt. isnt)
+        (cases_Bool (touches page one)))
+        unbegun (all-both (IsPlaced rules state.held) OfKind (λ one. IsPlaced rules state.held one × OfKind one) used (λ one first second. (first, second)) sound.placed (all-have rules state.held used sound page)) in
+        absurd (true≢false (sym (not_from_false (list_any (touches page) used) (any-none (touches page) used untouched)) ∙ in_use)))
+        (λ some. some ∙ sym in_use)
+        (cases_Bool (list_all (λ i. is_free (shown i)) (range_with_len 0 n))))
+        (cases_Bool (is_free_page used page))
+
+-- ---- a place that is in use, and its page
+
+record IsShownOn (rules : Rules) (state : State) (place : Place) (page : ℕ) : Type 0 where
+  index : ℕ
+  is : IsTrue (is_class place.class)
+  below : index < places_of place.class
+  at : place.address ≡ place_address page place.class index
+  touched : (p : ℕ) → touches p (use_of_place place) ≡ (page == p)
+  held_is : is_held state.held page ≡ true
+  there : page < zone_pages * rules.zones
+  kind : kinds_of rules state page ≡ Some (Chunk place.class)
+
+abbrev IsShown : Rules → State → Place → Type 0
+IsShown rules state place = IsShownOn rules state place (page_at place.address)
+
+-- what is so of all that is in use is so of the place
+shown-place : (rules : Rules) (state : State) → IsSound rules state → (place : Place) → ((P : Use → Type 0) → AllByRecursion P (uses rules state) → P (use_of_place place)) → IsShown rules state place
+shown-place rules state is place in_use =
+    let sound = is.sound in
+    let one = use_of_place place in
+    let placed = in_use (IsPlaced rules state.held) sound.placed in
+    let on = shape-chunk one place.class refl placed.shape in
+    let same : on.class ≡ place.class = same_class on.class place.class (sym (place-kind one on)) in
+    let here : touches on.page one ≡ true = touches-place one on on.page ∙ eq-eqb on.page on.page refl in
+    subst (IsShownOn rules state place) (sym (place-at one on)) (record {
+      index = on.index;
+      is = subst (λ c. IsTrue (is_class c)) same on.is;
+      below = subst (λ c. on.index < places_of c) same on.below;
+      at = ap first_of on.one_is ∙ ap (λ c. place_address on.page c on.index) same;
+      touched = touches-place one on;
+      held_is = placed.held_is on.page here;
+      there = placed.there on.page here;
+      kind = sym (in_use (λ u. touches on.page u ≡ true → Some u.kind ≡ kinds_of rules state on.page) (all-have rules state.held (uses rules state) sound on.page) here);
+    })
+
+-- what shares no byte with a place doesn't begin where it does
+apart-unbegun : (rules : Rules) (held : List ℕ) (gone : Place) (one : Use) → IsPlaced rules held (use_of_place gone) → IsPlaced rules held one → GoTogether (use_of_place gone) one → Unbegun gone.address one
+apart-unbegun rules held gone one gone_placed placed both =
+    ne_eqb (first_of one) gone.address (λ e.
+    let some = covers (use_of_place gone) gone_placed in
+    let other = covers one placed in
+    both.apart (gone.address, (omega arith, omega arith), (omega arith, omega arith)))
+  where
+    covers : (u : Use) → IsPlaced rules held u → 0 < (u.extent).len
+    covers u placed =
+        let shared = SharesByte-true (page_extent (page_at (first_of u))) u.extent (touches-first u placed.shape) in
+        let on = shared.2 in
+        omega arith
+
+none-if : {X : Type 0} (b : Bool) (x : X) → is_none (if b then None else Some x) ≡ b
+none-if true x = refl
+none-if false x = refl
+
+chunk-if : (b : Bool) (shown : ℕ → chunk.Place) (page class : ℕ) → chunk_page_by shown page (if b then None else Some (Chunk class)) ≡ (if b then None else Some (page_by shown page class))
+chunk-if true shown page class = refl
+chunk-if false shown page class = refl
+
+-- ---- a live place enters a slot
+
+module _ (rules : Rules) (tables : Tables) (state : State) (place : Place) (block : Block) (slot : ℕ) (live : block_at state place.address ≡ Some block) (class_is : size_class rules block.size ≡ Some place.class)
+    (low : slot < slot_count) (served : AreServed rules state) (is : IsSound rules state) (next_is : IsSound rules (into_slot state slot place)) (stand : StandFor rules tables state) where
+  abbrev next : State
+  next = into_slot state slot place
+
+  abbrev used : List Use
+  used = uses rules state
+
+  abbrev live_uses : List Use
+  live_uses = flat_map (uses_of_block rules) state.live
+
+  abbrev left_uses : List Use
+  left_uses = flat_map (uses_of_block rules) ((without_block state place.address).live)
+
+  slot-there : slot < length state.slots
+  slot-there = let long = is.slots in omega arith
+
+  next-served : AreServed rules next
+  next-served = all-filter (λ (b : Block). is_served rules b.size ≡ true) (λ (b : Block). not (b.address == place.address)) state.live served
+
+  own-uses : uses_of_block rules block ≡ use_of_place place ∷ []
+  own-uses =
+      let here = eqb-true block.address place.address (find-passes (λ (b : Block). b.address == place.address) state.live block live) in
+      chunk-uses rules block.size place.class class_is block.address block.site ∙ ap (λ a. use_of_place (record { address = a; class = place.class }) ∷ []) here
+
+  live-has : (P : Use → Type 0) → AllByRecursion P live_uses → P (use_of_place place)
+  live-has P all = (subst (AllByRecursion P) own-uses (of-block rules state is place.address block live P all)).0
+
+  own-shown : IsShown rules state place
+  own-shown = shown-place rules state is place (λ P all. live-has P (all-first P live_uses (waiting state.slots) all))
+
+  -- what the addresses have
+
+  has-here : place_has next place.address ≡ has.Delayed
+  has-here =
+      has-delayed (delayed_at next place.address) (block_at next place.address)
+      (slot-found place (λ other. other.address == place.address) state.slots slot (eq-eqb place.address place.address refl) slot-there)
+
+  has-others : (a : ℕ) → ¬ (a ≡ place.address) → IfSome (slot_of state slot) (λ gone. (gone.address == a) ≡ false) → place_has next a ≡ place_has state a
+  has-others a ne others =
+      ap (λ o. has_by o (block_at next a)) (slot-other place (λ other. other.address == a) state.slots slot (ne_eqb place.address a (λ e. ne (sym e))) others)
+      ∙ ap (has_by (delayed_at state a)) (find-left a place.address ne state.live)
+
+  delayed-shown : (new : ℕ → chunk.Place) → new place.address ≡ has.Delayed → ((a : ℕ) → ¬ (a ≡ place.address) → new a ≡ place_has state a)
+      → Shows new (kinds_of rules state) (with_place tables.chunks place.address has.Delayed) (pages_in rules)
+  delayed-shown new here others =
+      let own = own-shown in
+      subst (λ (v : chunk.Place). Shows new (kinds_of rules state) (with_place tables.chunks place.address v) (pages_in rules)) here
+      (place-shown (place_has state) new place.address (page_at place.address) place.class own.index own.at own.is own.below others (kinds_of rules state) tables.chunks (pages_in rules)
+      (kind-class rules state is) own.there own.kind (shows rules tables state stand))
+
+  -- what the pages are
+
+  next-kind : (p : ℕ) → kinds_of rules next p ≡ (if is_free_page (uses rules next) p then None else kinds_of rules state p)
+  next-kind p = into_slot-kind rules state is place.address block live p place slot refl own-uses
+
+  used-kind : (p : ℕ) → is_free_page (uses rules next) p ≡ false → kinds_of rules next p ≡ kinds_of rules state p
+  used-kind p in_use = next-kind p ∙ ap (λ b. if b then None else kinds_of rules state p) in_use
+
+  free-kind : (p : ℕ) → is_free_page (uses rules next) p ≡ true → kinds_of rules next p ≡ None
+  free-kind p free = next-kind p ∙ ap (λ b. if b then None else kinds_of rules state p) free
+
+  others-kind : (p : ℕ) → IfSome (slot_of state slot) (λ gone. touches p (use_of_place gone) ≡ false) → kinds_of rules next p ≡ kinds_of rules state p
+  others-kind p gone_clear = ⊎_elim
+      (λ free.
+      let Clear : Use → Type 0 = λ one. touches p one ≡ false in
+      let all = untouched-free (uses rules next) p free in
+      let later = waiting (slice_set state.slots slot (Some place)) in
+      let both = slot-all place Clear state.slots slot slot-there (all-second Clear left_uses later all) gone_clear in
+      let same = without_block-others rules state is place.address block live p (subst (AllByRecursion Clear) (sym own-uses) (both.0, tt)) in
+      free-kind p free ∙ sym (untouched-kind (uses rules (without_block state place.address)) p (all-append Clear left_uses (waiting state.slots) (all-first Clear left_uses later all) both.1)) ∙ same)
+      (used-kind p)
+      (cases_Bool (is_free_page (uses rules next) p))
+
+  others-stay : (p : ℕ) → kinds_of rules next p ≡ kinds_of rules state p → kind_in rules state p ≡ kind_in rules next p
+  others-stay p same =
+      kind-stays (is_held state.held p) (block_on rules state p) (block_on rules next p) (kinds_of rules state p) (kinds_of rules next p)
+      (plain rules state served p (block_on rules state p) (block_on rules next p) ∙ ap (kind_by (block_on rules next p)) (sym same))
+
+  -- the slot had nothing
+  pub put-off-new : slot_of state slot ≡ None
+      → StandFor rules (record tables { chunks = with_place tables.chunks place.address has.Delayed; slots = slice_set tables.slots slot (Some place) }) (into_slot state slot place)
+  put-off-new empty =
+      let nothing : (P : Place → Type 0) → IfSome (slot_of state slot) P = λ P. subst (λ o. IfSome o P) (sym empty) tt in
+      let shown = delayed-shown (place_has next) has-here (λ a ne. has-others a ne (nothing (λ gone. (gone.address == a) ≡ false))) in
+      let kinds : (p : ℕ) → kinds_of rules next p ≡ kinds_of rules state p = λ p. others-kind p (nothing (λ gone. touches p (use_of_place gone) ≡ false)) in
+      record {
+        pages_all = stand.pages_all;
+        chunks_all = shown.long;
+        pages = λ p low. stand.pages p low ∙ others-stay p (kinds p);
+        chunks = λ p low. shown.each p low ∙ sym (same-table next p (kinds_of rules next p) ∙ ap (chunk_page_by (place_has next) p) (kinds p));
+        slots = ap (λ slots. slice_set slots slot (Some place)) stand.slots;
+        memory = stand.memory;
+      }
+
+  -- the slot had a place
+  module _ (gone : Place) (full : slot_of state slot ≡ Some gone) where
+    abbrev before : List (Option ChunkPage)
+    before = with_place tables.chunks place.address has.Delayed
+
+    slot-gone : (P : Use → Type 0) → AllByRecursion P used → P (use_of_place gone)
+    slot-gone P all = slot-has P state.slots slot gone (all-second P live_uses (waiting state.slots) all) full
+
+    gone-shown : IsShown rules state gone
+    gone-shown = shown-place rules state is gone slot-gone
+
+    -- nothing begins there then
+    gone-unbegun : AllByRecursion (Unbegun gone.address) (uses rules next)
+    gone-unbegun =
+        let sound = is.sound in
+        let next_sound = next_is.sound in
+        let old = waiting state.slots in
+        let later = waiting (slice_set state.slots slot (Some place)) in
+        let Beside : Use → Type 0 = GoTogether (use_of_place gone) in
+        let beside : AllByRecursion Beside live_uses = all-weaker (λ one. AllByRecursion (GoTogether one) old) Beside live_uses
+        (λ one all. together-swap one (use_of_place gone) (slot-has (GoTogether one) state.slots slot gone all full)) (pairs-across GoTogether live_uses old sound.together) in
+        all-both Beside (IsPlaced rules state.held) (Unbegun gone.address) (uses rules next)
+        (λ one both placed. apart-unbegun rules state.held gone one (slot-gone (IsPlaced rules state.held) sound.placed) placed both)
+        (all-append Beside left_uses later (of-left rules state is place.address block live Beside beside)
+        (slot-related place GoTogether together-swap state.slots slot gone (pairs-second GoTogether live_uses old sound.together) full (live-has Beside beside)))
+        next_sound.placed
+
+    has-gone : place_has next gone.address ≡ has.Free
+    has-gone = vacant-free next gone.address (vacant rules gone.address next gone-unbegun)
+
+    -- what the addresses have once the place is delayed, and the other not yet free
+    abbrev between : ℕ → chunk.Place
+    between a = if a == place.address then has.Delayed else place_has state a
+
+    between-here : (a : ℕ) → a ≡ place.address → between a ≡ has.Delayed
+    between-here a same = ap (λ b. if b then has.Delayed else place_has state a) (eq-eqb a place.address same)
+
+    between-others : (a : ℕ) → ¬ (a ≡ place.address) → between a ≡ place_has state a
+    between-others a ne = ap (λ b. if b then has.Delayed else place_has state a) (ne_eqb a place.address ne)
+
+    has-after : (a : ℕ) → ¬ (a ≡ gone.address) → place_has next a ≡ between a
+    has-after a ne = ⊎_elim
+        (λ same. ap (place_has next) same ∙ has-here ∙ sym (between-here a same))
+        (λ other. has-others a other (subst (λ o. IfSome o (λ (p : Place). (p.address == a) ≡ false)) (sym full) (ne_eqb gone.address a (λ e. ne (sym e)))) ∙ sym (between-others a other))
+        (cases_eq a place.address)
+
+    before-shown : Shows between (kinds_of rules state) before (pages_in rules)
+    before-shown = delayed-shown between (between-here place.address refl) between-others
+
+    freed-shown : Shows (place_has next) (kinds_of rules state) (with_place before gone.address has.Free) (pages_in rules)
+    freed-shown =
+        let own = gone-shown in
+        subst (λ (v : chunk.Place). Shows (place_has next) (kinds_of rules state) (with_place before gone.address v) (pages_in rules)) has-gone
+        (place-shown between (place_has next) gone.address (page_at gone.address) gone.class own.index own.at own.is own.below has-after (kinds_of rules state) before (pages_in rules)
+        (kind-class rules state is) own.there own.kind before-shown)
+
+    abbrev gone_page : ℕ
+    gone_page = page_at gone.address
+
+    -- until it is free it is a place of a held chunk page
+    pub gone-place : IsSome (place_in (with_place tables.chunks place.address has.Delayed) gone.address)
+    gone-place =
+        let own = gone-shown in
+        let shown = before-shown in
+        let formed = well-formed rules state is in
+        place-there before between gone_page gone.class gone.address
+        (ap (λ b. if b then page_in before gone_page else None) (le-leb first_address gone.address (omega (arith, own.at)))
+        ∙ shown.each gone_page own.there ∙ ap (chunk_page_by between gone_page) own.kind)
+        (slot-gone (λ one. BeginsRight (first_of one) one.kind) formed.begin)
+
+    pub gone-held : is_held state.held (page_at gone.address) ≡ true
+    gone-held = let own = gone-shown in own.held_is
+
+    pub gone-low : page_at gone.address < zone_pages * rules.zones
+    gone-low = let own = gone-shown in own.there
+
+    gone-there : gone_page < length before
+    gone-there = let own = gone-shown in let there = own.there in let shown = before-shown in let long = shown.long in omega arith
+
+    gone-unused : is_unused (page_by (place_has next) gone_page gone.class) ≡ is_free_page (uses rules next) gone_page
+    gone-unused = let own = gone-shown in unused-page rules next next-served next_is gone_page gone.class own.is (λ in_use. used-kind gone_page in_use ∙ own.kind)
+
+    left-is : page_left before gone.address ≡ (if is_free_page (uses rules next) gone_page then None else Some (page_by (place_has next) gone_page gone.class))
+    left-is =
+        let own = gone-shown in
+        let shown = freed-shown in
+        sym (kept-freed before gone.address gone-there)
+        ∙ ap (option_and_then unless_unused) (shown.each gone_page own.there ∙ ap (chunk_page_by (place_has next) gone_page) own.kind)
+        ∙ ap (λ b. if b then None else Some (page_by (place_has next) gone_page gone.class)) gone-unused
+
+    -- the page of the place that is free has nothing left exactly where it is a free page then
+    pub put-off-left : is_none (page_left (with_place tables.chunks place.address has.Delayed) gone.address) ≡ is_free_page (uses rules (into_slot state slot place)) (page_at gone.address)
+    put-off-left = ap is_none left-is ∙ none-if (is_free_page (uses rules next) gone_page) (page_by (place_has next) gone_page gone.class)
+
+    others-same : (p : ℕ) → ¬ (p ≡ gone_page) → kinds_of rules next p ≡ kinds_of rules state p
+    others-same p ne =
+        let own = gone-shown in
+        others-kind p (subst (λ o. IfSome o (λ (x : Place). touches p (use_of_place x) ≡ false)) (sym full) (own.touched p ∙ ne_eqb gone_page p (λ e. ne (sym e))))
+
+    chunks-freed : (p : ℕ) → p < pages_in rules → page_in (with_freed before gone.address) p ≡ chunk_page_by (place_has next) p (kinds_of rules next p)
+    chunks-freed p low =
+        let own = gone-shown in
+        let shown = freed-shown in
+        let left = page_left before gone.address in
+        let free = is_free_page (uses rules next) gone_page in
+        ⊎_elim
+        (λ same.
+        subst (λ q. page_in (with_freed before gone.address) q ≡ chunk_page_by (place_has next) q (kinds_of rules next q)) (sym same)
+        (get_or-set_same before gone_page left None gone-there ∙ left-is
+        ∙ sym (ap (chunk_page_by (place_has next) gone_page) (next-kind gone_page ∙ ap (λ (kind : Option Kind). if free then None else kind) own.kind)
+        ∙ chunk-if free (place_has next) gone_page gone.class)))
+        (λ ne.
+        get_or-set_other before gone_page p left None ne
+        ∙ sym (get_or-set_other before gone_page p (option_map (λ (one : ChunkPage). with_place_at one (offset_of gone.address) has.Free) (page_with before gone.address)) None ne)
+        ∙ shown.each p low ∙ ap (chunk_page_by (place_has next) p) (sym (others-same p ne)))
+        (cases_eq p gone_page)
+
+    abbrev freed_pages : Bool → List PageKind
+    freed_pages free = if free then with_run tables.pages gone_page 1 table.Free else tables.pages
+
+    pages-all : (free : Bool) → length (freed_pages free) ≡ zone_pages * rules.zones
+    pages-all true = length-with_run tables.pages gone_page 1 table.Free ∙ stand.pages_all
+    pages-all false = stand.pages_all
+
+    pages-freed : (free : Bool) → is_free_page (uses rules next) gone_page ≡ free → (p : ℕ) → p < pages_in rules → kind_of (freed_pages free) p ≡ kind_in rules next p
+    pages-freed true free p low =
+        let own = gone-shown in
+        let long = stand.pages_all in
+        ⊎_elim
+        (λ same.
+        kind_of-with_run_in tables.pages gone_page 1 table.Free p (omega arith) (omega arith) (omega arith)
+        ∙ sym (ap (λ b. if b then kind_by (block_on rules next p) (kinds_of rules next p) else table.Absent) (ap (is_held state.held) same ∙ own.held_is)
+        ∙ ap (kind_by (block_on rules next p)) (ap (kinds_of rules next) same ∙ free-kind gone_page free)))
+        (λ ne.
+        kind_of-with_run_out tables.pages gone_page 1 table.Free p (⊎_elim (λ below. inl below) (λ above. inr (omega arith)) (cases_lt p gone_page))
+        ∙ stand.pages p low ∙ others-stay p (others-same p ne))
+        (cases_eq p gone_page)
+    pages-freed false in_use p low =
+        stand.pages p low
+        ∙ others-stay p (⊎_elim
+        (λ same. subst (λ q. kinds_of rules next q ≡ kinds_of rules state q) (sym same) (used-kind gone_page in_use))
+        (λ ne. others-same p ne)
+        (cases_eq p gone_page))
+
+    pub put-off-gone : StandFor rules (record tables {
+      pages = if is_free_page (uses rules (into_slot state slot place)) (page_at gone.address) then with_run tables.pages (page_at gone.address) 1 table.Free else tables.pages;
+      chunks = with_freed (with_place tables.chunks place.address has.Delayed) gone.address;
+      slots = slice_set tables.slots slot (Some place);
+    }) (into_slot state slot place)
+    put-off-gone =
+        let shown = before-shown in
+        let free = is_free_page (uses rules next) gone_page in
+        record {
+          pages_all = pages-all free;
+          chunks_all = length-set before gone_page (page_left before gone.address) ∙ shown.long;
+          pages = pages-freed free refl;
+          chunks = λ p low. chunks-freed p low ∙ sym (same-table next p (kinds_of rules next p));
+          slots = ap (λ slots. slice_set slots slot (Some place)) stand.slots;
+          memory = stand.memory;
+        }

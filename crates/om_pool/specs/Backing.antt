@@ -1,0 +1,55 @@
+-- What ties a pool to its broker. The broker has made the moves that stand in the journal, it has seen every version that
+-- the journal names, and it has the pages that are held. Each look of a search shows that the zone had no such run. The
+-- versions that the journal names for a zone never fall.
+use Rattle.std.specs.Prelude.{◌≡◌, ℕ, ◌+◌, ◌≤◌, true, List, Contains, None, IsSomeAnd}
+use Rattle.std.specs.List.{AllByRecursion, flat_map}
+use Rattle.om_broker.specs.Sights.{Seen, Names, Has}
+use Rattle.om_broker.specs.declared.broker.Broker as broker
+use Rattle.om_geom.specs.Fit.{fit_of, has_bit, searched_bit}
+use Rattle.om_geom.specs.Numbers.{zone_pages}
+use Rattle.om_model.specs.Pool.Rules.{Rules}
+use Rattle.om_model.specs.Pool.State.{is_held}
+use Rattle.om_model.specs.Zones.Looks.{named_in, Rises}
+use Rattle.om_model.specs.Zones.Moves.{moves_of, pages_sought, search_word}
+use Rattle.om_model.specs.declared.entry.Entry.{Entry}
+use Rattle.om_model.specs.declared.entry.Entry.TheVariants.{Call, Phase}
+use Rattle.om_model.specs.declared.entry.ZoneMove.{ZoneMove}
+use Rattle.om_model.specs.declared.looks.Look.{Look}
+use Rattle.om_model.specs.declared.looks.Named.{Named}
+
+-- some item of the sight names the version
+pub record IsSeen (sight : List Seen) (zone version : ℕ) : Type 0 where
+  pub item : Seen
+  pub among : Contains sight item
+  pub names : Names zone version item
+
+abbrev pub IsSeenName : List Seen → Named → Type 0
+IsSeenName sight named = IsSeen sight named.zone named.version
+
+-- the move was seen, and lies in its zone
+pub record IsSeenMove (sight : List Seen) (m : ZoneMove) : Type 0 where
+  pub seen : IsSeen sight m.made.zone m.made.version
+  pub inside : m.made.first + m.made.count ≤ zone_pages
+
+-- what was seen at the look had no run of so many pages, for a search by the word
+pub record IsFullIn (sight : List Seen) (count word : ℕ) (look : Look) : Type 0 where
+  pub item : Seen
+  pub among : Contains sight item
+  pub names : Names look.zone look.version item
+  pub full : fit_of (has_bit item.bits) count (searched_bit word) ≡ None
+
+-- each look at a zone that a search passed over is such a one
+abbrev pub HasFullLooks : Rules → List Seen → Entry → Type 0
+HasFullLooks rules sight (Call entry) =
+    AllByRecursion (λ look. IsSomeAnd (search_word rules entry) (λ word. IsFullIn sight (pages_sought rules entry.op) word look)) entry.looks
+HasFullLooks rules sight (Phase number) = Unit {0}
+
+pub record IsBacked {B A : Type 0} (g : broker.Ghosts B A) (rules : Rules) (held : List ℕ) (entries : List Entry) (b : B) : Type 0 where
+  pub zones : g.zones (g.arena b) ≡ rules.zones
+  pub sight : List Seen
+  pub made : g.made b (moves_of rules 0 entries) sight
+  pub has : (page : ℕ) → is_held held page ≡ true → Has (moves_of rules 0 entries) page
+  pub moves : AllByRecursion (IsSeenMove sight) (moves_of rules 0 entries)
+  pub named : AllByRecursion (IsSeenName sight) (flat_map named_in entries)
+  pub looks : AllByRecursion (HasFullLooks rules sight) entries
+  pub rising : Rises (flat_map named_in entries)

@@ -1,0 +1,111 @@
+-- What a step makes of the tables.
+use Rattle.std.specs.Prelude.{◌≡◌, ℕ, ◌*◌, ◌≤◌, Bool, ◌==◌, ◌||◌, not, nat_le, if◌then◌else◌, length, Option, Some, None, IsSomeAnd, slice_set}
+use Rattle.std.specs.Option.{is_none}
+use Rattle.om_chunk.specs.Pages.{page_in, page_left, with_freed, with_page, with_place}
+use Rattle.om_chunk.specs.Picks.{picked, place_on}
+use Rattle.om_chunk.specs.Places.{ChunkPage}
+use Rattle.om_chunk.specs.declared.pages.Picked.{Picked}
+use Rattle.om_chunk.specs.declared.place.Place.TheVariants.{Live, Delayed}
+use Rattle.om_frame.specs.Frames as frame_list
+use Rattle.om_frame.specs.Memory as frames
+use Rattle.om_frame.specs.Memory.{filled}
+use Rattle.om_geom.specs.declared.address.Extent.{Extent}
+use Rattle.om_model.specs.Pool.Junk.{extent_of_place, fresh_byte, freed_byte}
+use Rattle.om_frame.specs.Frames.{zero_frames}
+use Rattle.om_geom.specs.Addresses.{page_at}
+use Rattle.om_geom.specs.Numbers.{most_zones, zone_pages}
+use Rattle.om_model.specs.Pool.Rules.{Rules}
+use Rattle.om_model.specs.declared.block.Place.{Place}
+use Rattle.om_pages.specs.FreeRuns.{lowest_run}
+use Rattle.om_pages.specs.Kinds.{is_held}
+use Rattle.om_pages.specs.Tables.{free_count, kind_of, with_run}
+use Rattle.om_pages.specs.declared.kind.PageKind.{PageKind}
+use Rattle.om_pages.specs.declared.kind.PageKind.TheVariants.{Absent, Free, Chunk}
+use Rattle.om_pool.specs.Tables.{Tables}
+
+-- a held page on which nothing lies becomes a chunk page
+abbrev pub fresh_page : Tables → ℕ → ℕ → Tables
+fresh_page tables page class = record (record tables { pages = with_run tables.pages page 1 (Chunk (record { 0 = class })) }) { chunks = with_page tables.chunks page class }
+
+-- a page comes, with zeros
+abbrev pub claimed_page : Tables → ℕ → Tables
+claimed_page tables page = record (record tables { pages = with_run tables.pages page 1 Free }) { memory = frame_list.with_frames tables.memory (zero_frames page 1) }
+
+-- a free page leaves
+abbrev pub gone_page : Tables → ℕ → Tables
+gone_page tables page = record (record tables { pages = with_run tables.pages page 1 Absent }) { memory = frame_list.without_pages tables.memory page 1 }
+
+-- a place gets a block
+abbrev pub live_place : Tables → ℕ → ℕ → ℕ → Tables
+live_place tables address size site = record tables { chunks = with_place tables.chunks address (Live size site) }
+
+-- a place becomes free, and its page where it was the last one there
+abbrev pub page_goes : Tables → ℕ → Bool
+page_goes tables address = is_none (page_left tables.chunks address)
+
+abbrev pub freed_place : Tables → ℕ → Tables
+freed_place tables address = record (record tables { chunks = with_freed tables.chunks address }) {
+  pages = if page_goes tables address then with_run tables.pages (page_at address) 1 Free else tables.pages;
+}
+
+-- a live place waits in the slot
+abbrev pub delayed_place : Tables → ℕ → Place → Tables
+delayed_place tables slot place = record (record tables { chunks = with_place tables.chunks place.address Delayed }) { slots = slice_set tables.slots slot (Some place) }
+
+-- more pages are free than the pool keeps
+abbrev pub is_surplus_by : Rules → Tables → Bool
+is_surplus_by rules tables = not (nat_le (free_count tables.pages) rules.options.cache)
+
+-- ---- bytes
+
+abbrev pub filled_by : ℕ → Extent → Tables → Tables
+filled_by byte extent tables = record tables { memory = filled tables.memory extent.first extent.len byte }
+
+-- a fresh place is filled at junk level 2, and a freed one at levels 1 and 2
+abbrev pub fresh_filled : Rules → Place → Tables → Tables
+fresh_filled rules place tables = if rules.options.junk == 2 then filled_by fresh_byte (extent_of_place place) tables else tables
+
+abbrev pub freed_filled : Rules → Place → Tables → Tables
+freed_filled rules place tables = if rules.options.junk == 1 || rules.options.junk == 2 then filled_by freed_byte (extent_of_place place) tables else tables
+
+-- ---- the place that the pool itself has
+
+-- the lowest free page has become a chunk page, with the place that the word chooses
+pub record IsFreshPlace (old new : Tables) (class page second : ℕ) (result : Option Picked) : Type 0 where
+  pub place : ℕ
+  pub result_is : result ≡ Some (record { page = record { 0 = page }; place = place })
+  pub new_is : new ≡ fresh_page old page class
+  pub place_is : place_on new.chunks page second ≡ Some place
+
+abbrev pub FreshPlace : Tables → Tables → ℕ → ℕ → Option Picked → Option ℕ → Type 0
+FreshPlace old new class second result (Some page) = IsFreshPlace old new class page second result
+FreshPlace old new class second result None = (new ≡ old) × (result ≡ None)
+
+abbrev pub OwnBy : Tables → Tables → ℕ → ℕ → Option Picked → Option Picked → Type 0
+OwnBy old new class second result (Some found) = (new ≡ old) × (result ≡ Some found)
+OwnBy old new class second result None = FreshPlace old new class second result (lowest_run old.pages 1)
+
+-- on the open page that the first word chooses, or else on the lowest free page; the second word chooses the place
+abbrev pub OwnPlace : Tables → Tables → ℕ → ℕ → ℕ → Option Picked → Type 0
+OwnPlace old new class first second result = OwnBy old new class second result (picked old.chunks class first second)
+
+-- ---- a block
+
+-- a block on a place, which is filled by the junk level
+abbrev pub settled : Rules → Tables → ℕ → ℕ → ℕ → ℕ → Tables
+settled rules tables address class size site = fresh_filled rules (record { address = address; class = class }) (live_place tables address size site)
+
+-- ---- tables that agree with each other
+
+abbrev pub ChunkTie : PageKind → Option ChunkPage → Type 0
+ChunkTie (Chunk class) there = IsSomeAnd there (λ page. page.class ≡ class.0)
+ChunkTie kind there = there ≡ None
+
+pub record IsTied (zones : ℕ) (tables : Tables) : Type 0 where
+  pub pages_all : length tables.pages ≡ zone_pages * zones
+  pub chunks_all : length tables.chunks ≡ zone_pages * zones
+  pub memory_all : length tables.memory ≡ zone_pages * zones
+  pub chunks : (page : ℕ) → ChunkTie (kind_of tables.pages page) (page_in tables.chunks page)
+  pub memory : (page : ℕ) → frames.is_held tables.memory page ≡ is_held (kind_of tables.pages page)
+  pub some_zone : 1 ≤ zones
+  pub few_zones : zones ≤ most_zones
