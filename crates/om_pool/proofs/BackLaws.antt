@@ -3,12 +3,12 @@ use Rattle.std.proofs.Common.{◌≡◌, ℕ, zero, suc, ◌+◌, ◌/◌, ◌%�
 use Rattle.std.specs.Prelude.{Contains}
 use Rattle.std.specs.List.{AllByRecursion, flat_map, range_with_len}
 use Rattle.std.proofs.Math.Nat.{mod-add-div', mul-le-mul_right}
-use Rattle.std.proofs.lemmas.Bool.{false≢true, true≢false, and_parts, leb-true, ltb-true, cases_lt}
+use Rattle.std.proofs.lemmas.Bool.{true≢false, and_parts, leb-true, ltb-true, cases_lt}
 use Rattle.std.proofs.lemmas.List.Concat.{flat_map-append}
 use Rattle.std.proofs.lemmas.List.Elements.{Contains-append_left, Contains-append_right}
 use mathlib.Core.Logic.{⊎_elim}
-use Rattle.om_broker.specs.Claims.{ShowsFull, ShowsMove}
-use Rattle.om_broker.specs.Sights.{Seen, Has, IsLeft, IsNewer, IsNoOlder, Names, gives_back}
+use Rattle.om_broker.specs.Claims.{ShowsMove}
+use Rattle.om_broker.specs.Sights.{Seen, Has, IsLeft, IsNewer, gives_back}
 use Rattle.om_broker.specs.declared.broker.Broker as broker
 use Rattle.om_geom.specs.BitLaws.{fit_of-same}
 use Rattle.om_geom.specs.Fit.{has_bit, searched_bit, searched_zone}
@@ -17,7 +17,7 @@ use Rattle.om_model.specs.Data.CallEntry.{CallEntry}
 use Rattle.om_model.specs.Pool.Rules.{Rules}
 use Rattle.om_model.specs.Pool.Runs.{run_of, is_page_of}
 use Rattle.om_model.specs.Pool.State.{is_held}
-use Rattle.om_model.specs.Zones.Looks.{IsTrueLook, HasTrueLooks, named_by_look, named_by_move, named_in, ComesAfter, Rises, AreLooks}
+use Rattle.om_model.specs.Zones.Looks.{IsTrueLook, HasTrueLooks, named_in, ComesAfter, Rises, AreLooks}
 use Rattle.om_model.specs.Zones.Moves.{moves_of, moves_of_call, pages_sought, search_word}
 use Rattle.om_model.specs.declared.entry.Entry.{Entry}
 use Rattle.om_model.specs.declared.entry.Entry.TheVariants.{Call, Phase}
@@ -26,7 +26,7 @@ use Rattle.om_model.specs.declared.looks.Look.{Look}
 use Rattle.om_model.specs.declared.looks.Named.{Named}
 use Rattle.om_model.proofs.Each.{all-append, all-weaker}
 use Rattle.om_model.proofs.Journals.{moves_of-push}
-use Rattle.om_pool.specs.Backing.{IsSeen, IsSeenName, IsSeenMove, IsFullIn, HasFullLooks, IsBacked}
+use Rattle.om_pool.specs.Backing.{IsSeen, IsSeenName, IsSeenMove, IsFullIn, IsNext, ShowsEntry, HasFullLooks, IsBacked}
 
 -- what holds of each element holds of one that is there
 at-index : {X : Type 0} (P : X → Type 0) (xs : List X) (x : X) (k : ℕ) → k < length xs → get_or xs k x ≡ x → AllByRecursion P xs → P x
@@ -38,11 +38,6 @@ contained : {X : Type 0} (P : X → Type 0) (xs : List X) (x : X) → Contains x
 contained P xs x has all = at-index P xs x has.0 has.1 has.2 all
 
 -- ---- versions that come after others
-
--- the version is no older than what was seen, and a move's is newer
-pub record IsNext (sight : List Seen) (named : Named) : Type 0 where
-  pub no_older : IsNoOlder sight named.zone named.version
-  pub newer : named.moves ≡ true → IsNewer sight named.zone named.version
 
 module _ (sight : List Seen) where
   comes-after : (earlier later : Named) → IsSeenName sight earlier → IsNext sight later → ComesAfter earlier later
@@ -92,47 +87,29 @@ module _ (zones word : ℕ) where
 
 -- ---- more of the sight
 
-module _ (sight items : List Seen) where
-  seen-left : (zone version : ℕ) → IsSeen sight zone version → IsSeen (sight ++ items) zone version
-  seen-left zone version seen = record { item = seen.item; among = Contains-append_left sight items seen.item seen.among; names = seen.names }
+some-weaker : (P Q : ℕ → Type 0) → ((word : ℕ) → P word → Q word) → (search : Option ℕ) → IsSomeAnd search P → IsSomeAnd search Q
+some-weaker P Q step None holds = holds
+some-weaker P Q step (Some word) holds = step word holds
 
-  seen-right : (zone version : ℕ) (item : Seen) → Contains items item → Names zone version item → IsSeen (sight ++ items) zone version
-  seen-right zone version item among names = record { item = item; among = Contains-append_right sight items item among; names = names }
+module _ (sight whole : List Seen) (wider : (item : Seen) → Contains sight item → Contains whole item) where
+  seen-wider : (zone version : ℕ) → IsSeen sight zone version → IsSeen whole zone version
+  seen-wider zone version seen = record { item = seen.item; among = wider seen.item seen.among; names = seen.names }
 
-  full-left : (count word : ℕ) (look : Look) → IsFullIn sight count word look → IsFullIn (sight ++ items) count word look
-  full-left count word look full = record { item = full.item; among = Contains-append_left sight items full.item full.among; names = full.names; full = full.full }
+  full-wider : (count word : ℕ) (look : Look) → IsFullIn sight count word look → IsFullIn whole count word look
+  full-wider count word look full = record { item = full.item; among = wider full.item full.among; names = full.names; full = full.full }
 
-  some-weaker : (P Q : ℕ → Type 0) → ((word : ℕ) → P word → Q word) → (search : Option ℕ) → IsSomeAnd search P → IsSomeAnd search Q
-  some-weaker P Q step None holds = holds
-  some-weaker P Q step (Some word) holds = step word holds
-
-  full-looks-left : (rules : Rules) (entry : Entry) → HasFullLooks rules sight entry → HasFullLooks rules (sight ++ items) entry
-  full-looks-left rules (Call entry) looks =
+  full-looks-wider : (rules : Rules) (entry : Entry) → HasFullLooks rules sight entry → HasFullLooks rules whole entry
+  full-looks-wider rules (Call entry) looks =
       all-weaker
       (λ look. IsSomeAnd (search_word rules entry) (λ word. IsFullIn sight (pages_sought rules entry.op) word look))
-      (λ look. IsSomeAnd (search_word rules entry) (λ word. IsFullIn (sight ++ items) (pages_sought rules entry.op) word look))
+      (λ look. IsSomeAnd (search_word rules entry) (λ word. IsFullIn whole (pages_sought rules entry.op) word look))
       entry.looks
-      (λ look. some-weaker _ _ (λ word. full-left (pages_sought rules entry.op) word look) (search_word rules entry)) looks
-  full-looks-left rules (Phase number) looks = tt
+      (λ look. some-weaker _ _ (λ word. full-wider (pages_sought rules entry.op) word look) (search_word rules entry)) looks
+  full-looks-wider rules (Phase number) looks = tt
 
-  -- a look that a search passed over
-  pub look-next : (count word : ℕ) (look : Look) → ShowsFull sight items count word look → IsNext sight (named_by_look look)
-  look-next count word look shows = record { no_older = shows.new; newer = λ moves. absurd (false≢true moves) }
-
-  pub look-seen : (count word : ℕ) (look : Look) → ShowsFull sight items count word look → IsSeenName (sight ++ items) (named_by_look look)
-  look-seen count word look shows = seen-right look.zone look.version shows.item shows.among shows.names
-
-  pub look-full : (count word : ℕ) (look : Look) → ShowsFull sight items count word look → IsFullIn (sight ++ items) count word look
-  look-full count word look shows = record { item = shows.item; among = Contains-append_right sight items shows.item shows.among; names = shows.names; full = shows.full }
-
-  pub move-next : (m : ZoneMove) → ShowsMove sight items m → IsNext sight (named_by_move m.made)
-  move-next m shows = record {
-    no_older = all-weaker (λ (i : Seen). i.zone ≡ m.made.zone → i.version < m.made.version) (λ (i : Seen). i.zone ≡ m.made.zone → i.version ≤ m.made.version) sight (λ item below same. let lt = below same in omega arith) shows.new;
-    newer = λ moves. shows.new;
-  }
-
-  pub move-seen : (m : ZoneMove) → ShowsMove sight items m → IsSeen (sight ++ items) m.made.zone m.made.version
-  move-seen m shows = seen-right m.made.zone m.made.version shows.item shows.among shows.names
+-- what a move shows is seen then
+pub seen-here : (sight items : List Seen) (m : ZoneMove) → ShowsMove sight items m → IsSeen (sight ++ items) m.made.zone m.made.version
+seen-here sight items m shows = record { item = shows.item; among = Contains-append_right sight items shows.item shows.among; names = shows.names }
 
 -- ---- pages that a broker has
 
@@ -187,37 +164,43 @@ module _ {B A : Type 0} (g : broker.Ghosts B A) (rules : Rules) (held : List ℕ
   longer = entries ++ Call entry ∷ []
 
   -- what the call adds
-  pub record IsMore (after : List ℕ) (more : List ZoneMove) (names : List Named) : Type 0 where
+  pub record IsMore (after : List ℕ) (more : List ZoneMove) : Type 0 where
     pub arena : g.arena new ≡ g.arena old
     pub moves_are : moves_of_call rules 0 entry ≡ more
-    pub names_are : named_in (Call entry) ≡ names
     pub items : List Seen
-    pub made : g.made new (moves ++ more) (is.sight ++ items)
+    pub made : g.made new (moves ++ moves_of_call rules 0 entry) (is.sight ++ items)
+    pub shows : ShowsEntry rules entry moves is.sight items
     pub has : (page : ℕ) → is_held after page ≡ true → Has (moves ++ more) page
     pub seen_moves : AllByRecursion (IsSeenMove (is.sight ++ items)) more
-    pub seen : AllByRecursion (IsSeenName (is.sight ++ items)) names
-    pub next : AllByRecursion (IsNext is.sight) names
-    pub rises : Rises names
-    pub full : HasFullLooks rules (is.sight ++ items) (Call entry)
+    pub rises : Rises (named_in (Call entry))
 
-  pub backed-push : (after : List ℕ) (more : List ZoneMove) (names : List Named) → IsMore after more names → IsBacked g rules after longer new
-  backed-push after more names adds =
-      let whole : List Seen = is.sight ++ adds.items in
-      let moved : moves_of rules 0 longer ≡ moves ++ more = moves_of-push rules 0 entries (Call entry) ∙ ap (λ ms. moves ++ ms) adds.moves_are in
-      let told : flat_map named_in longer ≡ so_far ++ names = flat_map-append named_in entries (Call entry ∷ []) ∙ ap (λ all. so_far ++ all) (append-nil (named_in (Call entry)) ∙ adds.names_are) in
+  pub backed-push : (after : List ℕ) (more : List ZoneMove) → IsMore after more → IsBacked g rules after longer new
+  backed-push after more adds =
+      let items : List Seen = adds.items in
+      let whole : List Seen = is.sight ++ items in
+      let before : (item : Seen) → Contains is.sight item → Contains whole item = Contains-append_left is.sight items in
+      let here : (item : Seen) → Contains items item → Contains whole item = Contains-append_right is.sight items in
+      let names : List Named = named_in (Call entry) in
+      let entered : moves_of rules 0 longer ≡ moves ++ moves_of_call rules 0 entry = moves_of-push rules 0 entries (Call entry) in
+      let moved : moves_of rules 0 longer ≡ moves ++ more = entered ∙ ap (λ ms. moves ++ ms) adds.moves_are in
+      let told : flat_map named_in longer ≡ so_far ++ names = flat_map-append named_in entries (Call entry ∷ []) ∙ ap (λ all. so_far ++ all) (append-nil names) in
       let Made : List ZoneMove → Type 0 = λ ms. g.made new ms whole in
       let HasAll : List ZoneMove → Type 0 = λ ms. (page : ℕ) → is_held after page ≡ true → Has ms page in
-      let wider : (m : ZoneMove) → IsSeenMove is.sight m → IsSeenMove whole m = λ m was. record { seen = seen-left is.sight adds.items m.made.zone m.made.version was.seen; inside = was.inside } in
+      let wider : (m : ZoneMove) → IsSeenMove is.sight m → IsSeenMove whole m = λ m was. record { seen = seen-wider is.sight whole before m.made.zone m.made.version was.seen; inside = was.inside } in
       record {
         zones = ap g.zones adds.arena ∙ is.zones;
         sight = whole;
-        made = subst Made (sym moved) adds.made;
+        made = subst Made (sym entered) adds.made;
         has = subst HasAll (sym moved) adds.has;
         moves = subst (AllByRecursion (IsSeenMove whole)) (sym moved) (all-append (IsSeenMove whole) moves more (all-weaker (IsSeenMove is.sight) (IsSeenMove whole) moves wider is.moves) adds.seen_moves);
         named = subst (AllByRecursion (IsSeenName whole)) (sym told)
-            (all-append (IsSeenName whole) so_far names (all-weaker (IsSeenName is.sight) (IsSeenName whole) so_far (λ named. seen-left is.sight adds.items named.zone named.version) is.named) adds.seen);
-        looks = all-append (HasFullLooks rules whole) entries (Call entry ∷ []) (all-weaker (HasFullLooks rules is.sight) (HasFullLooks rules whole) entries (full-looks-left is.sight adds.items rules) is.looks) (adds.full, tt);
-        rising = subst Rises (sym told) (Rises-append is.sight so_far names is.rising is.named adds.rises adds.next);
+            (all-append (IsSeenName whole) so_far names
+            (all-weaker (IsSeenName is.sight) (IsSeenName whole) so_far (λ named. seen-wider is.sight whole before named.zone named.version) is.named)
+            (all-weaker (IsSeenName items) (IsSeenName whole) names (λ named. seen-wider items whole here named.zone named.version) (adds.shows).seen));
+        looks = all-append (HasFullLooks rules whole) entries (Call entry ∷ [])
+            (all-weaker (HasFullLooks rules is.sight) (HasFullLooks rules whole) entries (full-looks-wider is.sight whole before rules) is.looks)
+            (full-looks-wider items whole here rules (Call entry) (adds.shows).full, tt);
+        rising = subst Rises (sym told) (Rises-append is.sight so_far names is.rising is.named adds.rises (adds.shows).next);
       }
 
 -- ---- a broker that has its arena to itself
@@ -240,7 +223,7 @@ module _ (rules : Rules) (moves : List ZoneMove) (sight : List Seen) (left : All
       (λ look. IsSomeAnd (search_word rules entry) (λ word. IsFullIn sight (pages_sought rules entry.op) word look))
       (λ look. IsSomeAnd (search_word rules entry) (λ word. IsTrueLook moves (pages_sought rules entry.op) word look))
       entry.looks
-      (λ look. some-weaker sight sight _ _ (λ word. true-look (pages_sought rules entry.op) word look) (search_word rules entry)) looks
+      (λ look. some-weaker _ _ (λ word. true-look (pages_sought rules entry.op) word look) (search_word rules entry)) looks
   true-looks (Phase number) looks = tt
 
 pub are-looks : {B A : Type 0} (g : broker.Ghosts B A) (rules : Rules) (held : List ℕ) (entries : List Entry) (b : B) (is : IsBacked g rules held entries b)

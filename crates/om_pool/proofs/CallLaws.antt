@@ -1,14 +1,14 @@
 -- What becomes of the broker's side of a pool by a call that asks it for nothing, by one that lets a page go, and by one that
 -- searches for a page.
-use Rattle.std.proofs.Common.{◌≡◌, ℕ, ◌+◌, ◌≤◌, Bool, true, false, not, ◌||◌, List, [], ◌∷◌, ◌++◌, length, map, Option, Some, None, IsSomeAnd, refl, sym, subst, ◌∙◌, ap, arith, append-nil, length-append}
+use Rattle.std.proofs.Common.{◌≡◌, ℕ, ◌+◌, ◌≤◌, Bool, true, false, not, ◌||◌, List, [], ◌∷◌, ◌++◌, length, map, Option, Some, None, refl, sym, subst, ◌∙◌, ap, arith, append-nil, length-append}
 use Rattle.std.specs.List.{AllByRecursion, range_with_len}
 use Rattle.std.proofs.lemmas.Bool.{true≢false, and_parts, cases_Bool}
 use Rattle.std.proofs.lemmas.List.{length-map, map-append}
 use Rattle.std.proofs.lemmas.Nat.{mod_below}
 use Rattle.std.proofs.lemmas.List.FromFn.{map-range_with_len_more}
 use mathlib.Core.Logic.{⊎_elim}
-use Rattle.om_broker.specs.Claims.{ShowsFull, NamesSearched, AreZeros, HasFrames}
-use Rattle.om_broker.specs.Sights.{Seen, Has, claimed, released}
+use Rattle.om_broker.specs.Claims.{ShowsMove, NamesSearched, AreZeros, HasFrames}
+use Rattle.om_broker.specs.Sights.{Has, claimed, released}
 use Rattle.om_broker.specs.declared.broker.Broker as broker
 use Rattle.om_broker.specs.declared.broker.Claim.{Claim}
 use Rattle.om_broker.specs.declared.broker.Claim.TheVariants.{Claimed, NoRun}
@@ -19,7 +19,7 @@ use Rattle.om_model.specs.Data.CallEntry.{CallEntry}
 use Rattle.om_model.specs.Pool.Rules.{Rules}
 use Rattle.om_model.specs.Pool.Runs.{Run, run_of, is_page_of}
 use Rattle.om_model.specs.Pool.State.{is_held, with_run, without_run}
-use Rattle.om_model.specs.Zones.Looks.{named_by_look, named_by_move}
+use Rattle.om_model.specs.Zones.Looks.{named_by_look, named_by_move, Rises}
 use Rattle.om_model.specs.Zones.Moves.{moves_of, pages_sought, search_word}
 use Rattle.om_model.specs.declared.entry.Entry.{Entry}
 use Rattle.om_model.specs.declared.entry.Entry.TheVariants.{Call}
@@ -30,15 +30,15 @@ use Rattle.om_model.specs.declared.looks.Named.{Named}
 use Rattle.om_model.specs.declared.operation.Op.{Op}
 use Rattle.om_model.specs.declared.operation.Who.{Who}
 use Rattle.om_model.specs.declared.reply.Reply.{Reply}
-use Rattle.om_model.proofs.Each.{all-append, all-weaker}
 use Rattle.om_model.proofs.Held.{held-with_run, held-without_run}
 use Rattle.om_pool.specs.Asking.{one_page, claim_in, IsSearched, IsLeft, IsAsked}
-use Rattle.om_pool.specs.Backing.{IsSeenName, IsFullIn, HasFullLooks, IsBacked}
+use Rattle.om_pool.specs.Backing.{IsBacked}
 use Rattle.om_pool.specs.CoreKept.{core_state, IsBackedCore}
 use Rattle.om_pool.specs.HoldingsView.{rules_in}
 use Rattle.om_pool.specs.Unasked.{unasked_entry, IsQuiet}
 use Rattle.om_pool.specs.declared.pool_core.Core.{Core}
-use Rattle.om_pool.proofs.BackLaws.{IsNext, backed-push, names-rise, look-next, look-seen, look-full, move-next, move-seen, has-still, has-claimed}
+use Rattle.om_pool.proofs.BackLaws.{backed-push, names-rise, seen-here, has-still, has-claimed}
+use Rattle.om_pool.proofs.EntryLaws.{adds-released, adds-searched, adds-still, moves-claimed, moves-refused, names-claimed, names-refused}
 
 -- the held pages after a search, or after none
 abbrev pub held_after : List ℕ → Bool → Option Claim → List ℕ
@@ -59,21 +59,17 @@ module _ {B A : Type 0} (g : broker.Ghosts B A) where
     pub backed-still : entry.claim ≡ None → entry.release ≡ None → entry.taken ≡ None → entry.looks ≡ [] → IsBacked g rules held (entries ++ Call entry ∷ []) b
     backed-still claim release taken looks =
         let moves = moves_of rules 0 entries in
-        let Made : List ZoneMove → List Seen → Type 0 = λ ms sight. g.made b ms sight in
         let HasAll : List ZoneMove → Type 0 = λ ms. (page : ℕ) → is_held held page ≡ true → Has ms page in
-        let By : List Look → Type 0 = λ all. AllByRecursion (λ look. IsSomeAnd (search_word rules entry) (λ word. IsFullIn (is.sight ++ []) (pages_sought rules entry.op) word look)) all in
-        backed-push g rules held entries b b entry is held [] [] (record {
+        let adds = adds-still g rules b entry claim release taken looks moves is.sight is.made in
+        backed-push g rules held entries b b entry is held [] (record {
           arena = refl;
           moves_are = rw (claim, release) refl;
-          names_are = rw (claim, release, taken, looks) refl;
-          items = [];
-          made = subst (λ ms. Made ms (is.sight ++ [])) (sym (append-nil moves)) (subst (Made moves) (sym (append-nil is.sight)) is.made);
+          items = adds.0;
+          made = adds.1;
+          shows = adds.3;
           has = subst HasAll (sym (append-nil moves)) is.has;
           seen_moves = tt;
-          seen = tt;
-          next = tt;
-          rises = tt;
-          full = subst By (sym looks) tt;
+          rises = rw (claim, release, taken, looks) tt;
         })
 
   -- the same of a core
@@ -102,24 +98,19 @@ module _ {B A : Type 0} (g : broker.Ghosts B A) where
     backed-left (Some move) left =
         let first = left.0 in
         let lets = left.1 in
-        let adds = (lets.given).made (moves_of rules 0 entries) is.sight is.made in
-        let items : List Seen = adds.0 in
+        let moves = moves_of rules 0 entries in
+        let adds = adds-released g rules old new who op reply words move (lets.given).made moves is.sight is.made in
         let m : ZoneMove = released move in
-        let shows = adds.2.0 in
-        let seen = move-seen is.sight items m shows in
-        let Stays : List ℕ → Type 0 = λ pages. (page : ℕ) → is_held pages page ≡ true → Has (moves_of rules 0 entries ++ m ∷ []) page in
-        backed-push g rules held entries old new (unasked_entry who op reply words (Some move)) is after (m ∷ []) (named_by_move move ∷ []) (record {
+        let Stays : List ℕ → Type 0 = λ pages. (page : ℕ) → is_held pages page ≡ true → Has (moves ++ m ∷ []) page in
+        backed-push g rules held entries old new (unasked_entry who op reply words (Some move)) is after (m ∷ []) (record {
           arena = ((lets.given).same).arena;
           moves_are = refl;
-          names_are = refl;
-          items = items;
+          items = adds.0;
           made = adds.1;
+          shows = adds.3;
           has = subst Stays (sym lets.left) (λ page here. let_go-stays page first move (lets.given).run_is here);
-          seen_moves = (record { seen = seen; inside = (lets.given).inside }, tt);
-          seen = (seen, tt);
-          next = (move-next is.sight items m shows, tt);
+          seen_moves = (record { seen = seen-here is.sight adds.0 m adds.2.0; inside = (lets.given).inside }, tt);
           rises = (tt, tt);
-          full = tt;
         })
 
   -- the same of a core
@@ -156,29 +147,9 @@ module _ {B A : Type 0} (g : broker.Ghosts B A) where
     abbrev names : List Named
     names = map named_by_look entry.looks
 
-    all-map : {X Y : Type 0} (f : X → Y) (P : X → Type 0) (Q : Y → Type 0) (xs : List X) → ((x : X) → P x → Q (f x)) → AllByRecursion P xs → AllByRecursion Q (map f xs)
-    all-map f P Q [] step all = tt
-    all-map f P Q (x ∷ xs) step all = (step x all.0, all-map f P Q xs step all.1)
-
     zones-of : (looks : List Look) → map (λ (n : Named). n.zone) (map named_by_look looks) ≡ map (λ (look : Look). look.zone) looks
     zones-of [] = refl
     zones-of (look ∷ looks) = ap (λ zs. look.zone ∷ zs) (zones-of looks)
-
-    module _ (items : List Seen) (shows : AllByRecursion (ShowsFull is.sight items 1 word) entry.looks) where
-      abbrev whole : List Seen
-      whole = is.sight ++ items
-
-      looks-full : HasFullLooks rules whole (Call entry)
-      looks-full =
-          let By : Option ℕ → ℕ → Type 0 = λ search n. AllByRecursion (λ look. IsSomeAnd search (λ w. IsFullIn whole n w look)) entry.looks in
-          subst (λ search. By search (pages_sought rules entry.op)) (sym searched) (subst (By (Some word)) (sym one)
-          (all-weaker (ShowsFull is.sight items 1 word) (λ look. IsFullIn whole 1 word look) entry.looks (look-full is.sight items 1 word) shows))
-
-      looks-next : AllByRecursion (IsNext is.sight) names
-      looks-next = all-map named_by_look (ShowsFull is.sight items 1 word) (IsNext is.sight) entry.looks (look-next is.sight items 1 word) shows
-
-      looks-seen : AllByRecursion (IsSeenName whole) names
-      looks-seen = all-map named_by_look (ShowsFull is.sight items 1 word) (IsSeenName whole) entry.looks (look-seen is.sight items 1 word) shows
 
     zones-named : NamesSearched (g.zones (g.arena old)) word entry.looks → map (λ (n : Named). n.zone) names ≡ map (searched_zone (g.zones (g.arena old)) word) (range_with_len 0 (length names))
     zones-named named =
@@ -187,35 +158,29 @@ module _ {B A : Type 0} (g : broker.Ghosts B A) where
     -- no run was found
     backed-refused : entry.claim ≡ None → IsSearched g old new 1 word entry.looks NoRun → IsBacked g rules held (entries ++ Call entry ∷ []) new
     backed-refused claim search =
-        let adds = search.made moves is.sight is.made in
-        let items : List Seen = adds.0 in
-        let shows = (adds.3).looks_are in
+        let adds = adds-searched g rules old new entry word release taken searched one NoRun claim search moves is.sight is.made in
         let full : length entry.looks ≡ g.zones (g.arena old) = search.found in
         let HasAll : List ZoneMove → Type 0 = λ ms. (page : ℕ) → is_held held page ≡ true → Has ms page in
-        backed-push g rules held entries old new entry is held [] names (record {
+        backed-push g rules held entries old new entry is held [] (record {
           arena = (search.same).arena;
-          moves_are = rw (claim, release) refl;
-          names_are = rw (claim, release, taken) (append-nil names);
-          items = items;
+          moves_are = moves-refused g rules old new entry word release taken searched one claim;
+          items = adds.0;
           made = adds.1;
+          shows = adds.3;
           has = subst HasAll (sym (append-nil moves)) is.has;
           seen_moves = tt;
-          seen = looks-seen items shows;
-          next = looks-next items shows;
-          rises = names-rise (g.zones (g.arena old)) word 0 names (zones-named search.names) (omega (arith, length-map entry.looks named_by_look));
-          full = looks-full items shows;
+          rises = subst Rises (sym (names-refused g rules old new entry word release taken searched one claim))
+              (names-rise (g.zones (g.arena old)) word 0 names (zones-named search.names) (omega (arith, length-map entry.looks named_by_look)));
         })
 
     -- a page was claimed
     backed-claimed : (move : Move) (frames : List PageBytes) → entry.claim ≡ Some move → IsSearched g old new 1 word entry.looks (Claimed move frames) → IsBacked g rules (with_run (run_of move) held) (entries ++ Call entry ∷ []) new
     backed-claimed move frames claim search =
         let zones = g.zones (g.arena old) in
-        let adds = search.made moves is.sight is.made in
-        let items : List Seen = adds.0 in
-        let shows = (adds.3).looks_are in
+        let adds = adds-searched g rules old new entry word release taken searched one (Claimed move frames) claim search moves is.sight is.made in
         let m : ZoneMove = claimed move (Some word) in
-        let shows_move = adds.2.0 in
-        let seen = move-seen is.sight items m shows_move in
+        let are = moves-claimed g rules old new entry word release taken searched one move claim in
+        let shows : ShowsMove is.sight adds.0 m = (subst (AllByRecursion (ShowsMove is.sight adds.0)) are adds.2).0 in
         let found = search.found in
         let count = found.count in
         let inside : move.first + move.count ≤ zone_pages = omega (arith, found.inside) in
@@ -228,23 +193,20 @@ module _ {B A : Type 0} (g : broker.Ghosts B A) where
         ∙ sym (map-range_with_len_more (searched_zone zones word) 0 (length entry.looks) (length entry.looks) (omega arith))
         ∙ ap (λ n. map (searched_zone zones word) (range_with_len 0 n)) (sym long) in
         let few = found.few in
-        backed-push g rules held entries old new entry is (with_run (run_of move) held) (m ∷ []) all (record {
+        backed-push g rules held entries old new entry is (with_run (run_of move) held) (m ∷ []) (record {
           arena = (search.same).arena;
-          moves_are = rw (claim, release, searched) refl;
-          names_are = rw (claim, release, taken) refl;
-          items = items;
+          moves_are = are;
+          items = adds.0;
           made = adds.1;
+          shows = adds.3;
           has = λ page here. ⊎_elim
               (λ (was : is_held held page ≡ true). has-still moves m page (λ back. absurd (true≢false back.0)) (is.has page was))
               (λ (was : is_held held page ≡ false).
               let on : is_page_of (run_of move) page ≡ true = sym (ap (λ b. b || is_page_of (run_of move) page) was) ∙ sym (held-with_run (run_of move) held page) ∙ here in
-              has-claimed moves m page is.sight is.moves refl inside shows_move.new on)
+              has-claimed moves m page is.sight is.moves refl inside shows.new on)
               (cases_Bool (is_held held page));
-          seen_moves = (record { seen = seen; inside = inside }, tt);
-          seen = all-append (IsSeenName (is.sight ++ items)) names (named_by_move move ∷ []) (looks-seen items shows) (seen, tt);
-          next = all-append (IsNext is.sight) names (named_by_move move ∷ []) (looks-next items shows) (move-next is.sight items m shows_move, tt);
-          rises = names-rise zones word 0 all zones_are (omega arith);
-          full = looks-full items shows;
+          seen_moves = (record { seen = seen-here is.sight adds.0 m shows; inside = inside }, tt);
+          rises = subst Rises (sym (names-claimed g rules old new entry word release taken searched one move claim)) (names-rise zones word 0 all zones_are (omega arith));
         })
 
     pub backed-asked : (own : Bool) (answer : Option Claim) → entry.claim ≡ claim_in answer → IsAsked g own old new word entry.looks answer → IsBacked g rules (held_after held own answer) (entries ++ Call entry ∷ []) new

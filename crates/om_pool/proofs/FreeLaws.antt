@@ -36,7 +36,7 @@ use Rattle.om_pages.specs.declared.kind.PageKind.TheVariants as table
 use Rattle.om_pool.specs.Asking.{one_page, IsLeft}
 use Rattle.om_pool.specs.Chunks.{HoldsPlace}
 use Rattle.om_pool.specs.CoreKept.{core_state, IsCore}
-use Rattle.om_pool.specs.Freeing.{evicted_tables, is_let_go, Evicts, GivesTo, FreeIs, IsThere}
+use Rattle.om_pool.specs.Free.{evicted_tables, is_let_go, Evicts, GivesTo, FreeIs, IsThere}
 use Rattle.om_pool.specs.HoldingsView.{rules_in, tables_in, with_drawn, IsSameBut}
 use Rattle.om_pool.specs.PoolView.{says_no_run}
 use Rattle.om_pool.specs.ByTables.{standing_by}

@@ -3,6 +3,7 @@ pub mod BackLaws
 pub mod Begun
 pub mod CallLaws
 pub mod CoreLaws
+pub mod EntryLaws
 pub mod FreeLaws
 pub mod MallocLaws
 pub mod Pages

@@ -50,10 +50,10 @@ use Rattle.om_pages.specs.Tables as table
 use Rattle.om_pages.specs.declared.kind.PageKind.{PageKind}
 use Rattle.om_pages.specs.declared.kind.PageKind.TheVariants as page_is
 use Rattle.om_pool.specs.Asking.{claim_in, one_page, IsAsked, IsSearched}
-use Rattle.om_pool.specs.Backing.{IsBacked}
+use Rattle.om_pool.specs.Backing.{AddsEntry, IsBacked}
 use Rattle.om_pool.specs.CoreKept.{core_state, view_of, IsLookRoom, IsCore}
 use Rattle.om_pool.specs.HoldingsView.{rules_in, tables_in}
-use Rattle.om_pool.specs.Placing.{opened, reply_for, IsFor, IsPlacedFirst, IsPlacedOn}
+use Rattle.om_pool.specs.Malloc.{opened, reply_for, IsFor, IsPlacedFirst, IsPlacedOn}
 use Rattle.om_pool.specs.PoolView.{says_no_run, UsesBroker}
 use Rattle.om_pool.specs.TableSteps.{claimed_page, filled_by, fresh_filled, fresh_page, live_place, settled}
 use Rattle.om_pool.specs.Tables.{Tables, StandFor}
@@ -61,7 +61,7 @@ use Rattle.om_pool.specs.declared.pool_core.Core.{Core}
 use Rattle.om_pool.proofs.CallLaws.{held_after}
 use Rattle.om_pool.proofs.CoreLaws.{core-sound, entry_with, left_after, Does}
 use Rattle.om_pool.proofs.Pages.{insert-with_run}
-use Rattle.om_pool.proofs.Spending.{uses-claimed, uses-quiet}
+use Rattle.om_pool.proofs.Spending.{uses-claimed, uses-still}
 use Rattle.om_pool.proofs.TableAnswers.{held-by}
 use Rattle.om_pool.proofs.TablePages.{bytes-filled, lowest-page, pages-come, words-drawn}
 use Rattle.om_pool.proofs.TablePicks.{fresh-picked, own-none, own-some}
@@ -459,18 +459,21 @@ module _ {B A : Type 0} (g : broker.Ghosts B A) (old new : Core) (before after :
       let where_is = ap (λ o. placed_where (rules_in old.state) (drawn_more 2 (core_state old)) o (claim_in answer) second size site) is in
       ap says_no_run (reply_is ∙ ap (reply_for old.state.opts.xmalloc) (sym address_is ∙ ap (λ (p : Placed). p.address) where_is))
 
-  pub uses-asked : EachPair ◌<◌ (core_state old).held → IsBacked g (rules_in old.state) (core_state old).held old.journal.items before → IsAsked g (is_some own) before after first looks answer
+  pub uses-asked : (entry : CallEntry) → new.journal.items ≡ old.journal.items ++ Call entry ∷ [] → AddsEntry g (rules_in old.state) entry before after
+      → EachPair ◌<◌ (core_state old).held → IsBacked g (rules_in old.state) (core_state old).held old.journal.items before → IsAsked g (is_some own) before after first looks answer
       → (core_state new).held ≡ held_after (core_state old).held (is_some own) answer → (placed_where (rules_in old.state) (drawn_more 2 (core_state old)) own (claim_in answer) second size site).address ≡ result
       → reply ≡ reply_for old.state.opts.xmalloc result → UsesBroker g (view_of old before) (view_of new after) reply
-  uses-asked pairs backed asked held address_is reply_is = by own refl answer asked held
+  uses-asked entry added adds pairs backed asked held address_is reply_is = by own refl answer asked held
     where
       by : (o : Option ℕ) → own ≡ o → (a : Option Claim) → IsAsked g (is_some o) before after first looks a → (core_state new).held ≡ held_after (core_state old).held (is_some o) a → UsesBroker g (view_of old before) (view_of new after) reply
       by (Some page) is a was same =
           let P : B → Type 0 = λ b. UsesBroker g (view_of old before) (view_of new b) reply in
-          subst P (sym was.0) (uses-quiet g old new before reply same (own-says page is address_is reply_is))
+          let Made : B → Type 0 = λ b. AddsEntry g (rules_in old.state) entry before b in
+          subst P (sym was.0) (uses-still g old new reply entry added before same (own-says page is address_is reply_is) (subst Made was.0 adds))
       by None is None was same = absurd was
-      by None is (Some NoRun) was same = uses-claimed g old new before after first looks NoRun reply was (omega (arith, ap length same))
+      by None is (Some NoRun) was same = uses-claimed g old new reply entry added before after first looks NoRun was (omega (arith, ap length same)) adds
       by None is (Some (Claimed move frames)) was same =
           let count = (was.found).count in
-          uses-claimed g old new before after first looks (Claimed move frames) reply was
+          uses-claimed g old new reply entry added before after first looks (Claimed move frames) was
           (omega (arith, ap length same, longer (core_state old).held move count pairs (fresh g (rules_in old.state) (core_state old) old.journal.items before after backed first looks move frames was (run_of move).first (omega arith) (omega arith))))
+          adds

@@ -18,7 +18,7 @@ use Rattle.om_model.proofs.Places.{serves-own}
 use Rattle.om_model.proofs.Sound.{IsSound}
 use Rattle.om_pages.specs.FreeRuns.{lowest_run}
 use Rattle.om_pool.specs.Asking.{claim_in}
-use Rattle.om_pool.specs.Placing.{PlacesBlock}
+use Rattle.om_pool.specs.Malloc.{PlacesBlock}
 use Rattle.om_pool.specs.TableSteps.{fresh_page, FreshPlace, OwnBy, OwnPlace}
 use Rattle.om_pool.specs.Tables.{Tables, StandFor}
 use Rattle.om_pool.proofs.MallocLaws.{own-nothing, places-claimed, places-fresh, places-nowhere, places-open, Places}

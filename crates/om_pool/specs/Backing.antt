@@ -3,14 +3,16 @@
 -- versions that the journal names for a zone never fall.
 use Rattle.std.specs.Prelude.{◌≡◌, ℕ, ◌+◌, ◌≤◌, true, List, Contains, None, IsSomeAnd}
 use Rattle.std.specs.List.{AllByRecursion, flat_map}
-use Rattle.om_broker.specs.Sights.{Seen, Names, Has}
+use Rattle.om_broker.specs.Claims.{Adds}
+use Rattle.om_broker.specs.Sights.{Seen, Names, IsNoOlder, IsNewer, Has}
 use Rattle.om_broker.specs.declared.broker.Broker as broker
 use Rattle.om_geom.specs.Fit.{fit_of, has_bit, searched_bit}
 use Rattle.om_geom.specs.Numbers.{zone_pages}
+use Rattle.om_model.specs.Data.CallEntry.{CallEntry}
 use Rattle.om_model.specs.Pool.Rules.{Rules}
 use Rattle.om_model.specs.Pool.State.{is_held}
 use Rattle.om_model.specs.Zones.Looks.{named_in, Rises}
-use Rattle.om_model.specs.Zones.Moves.{moves_of, pages_sought, search_word}
+use Rattle.om_model.specs.Zones.Moves.{moves_of, moves_of_call, pages_sought, search_word}
 use Rattle.om_model.specs.declared.entry.Entry.{Entry}
 use Rattle.om_model.specs.declared.entry.Entry.TheVariants.{Call, Phase}
 use Rattle.om_model.specs.declared.entry.ZoneMove.{ZoneMove}
@@ -43,6 +45,21 @@ abbrev pub HasFullLooks : Rules → List Seen → Entry → Type 0
 HasFullLooks rules sight (Call entry) =
     AllByRecursion (λ look. IsSomeAnd (search_word rules entry) (λ word. IsFullIn sight (pages_sought rules entry.op) word look)) entry.looks
 HasFullLooks rules sight (Phase number) = Unit {0}
+
+-- the version is no older than what was seen, and a move's is newer
+pub record IsNext (sight : List Seen) (named : Named) : Type 0 where
+  pub no_older : IsNoOlder sight named.zone named.version
+  pub newer : named.moves ≡ true → IsNewer sight named.zone named.version
+
+-- all that the entry names was seen in its own call
+pub record ShowsEntry (rules : Rules) (entry : CallEntry) (moves : List ZoneMove) (sight items : List Seen) : Type 0 where
+  pub seen : AllByRecursion (IsSeenName items) (named_in (Call entry))
+  pub next : AllByRecursion (IsNext sight) (named_in (Call entry))
+  pub full : HasFullLooks rules items (Call entry)
+
+-- the broker made the entry's moves, and nothing else, and saw what the entry names
+abbrev pub AddsEntry : {B A : Type 0} → broker.Ghosts B A → Rules → CallEntry → B → B → Type 0
+AddsEntry g rules entry old new = Adds g.made old new (moves_of_call rules 0 entry) (ShowsEntry rules entry)
 
 pub record IsBacked {B A : Type 0} (g : broker.Ghosts B A) (rules : Rules) (held : List ℕ) (entries : List Entry) (b : B) : Type 0 where
   pub zones : g.zones (g.arena b) ≡ rules.zones

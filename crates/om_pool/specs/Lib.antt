@@ -5,10 +5,10 @@ pub mod Backing
 pub mod Chunks
 pub mod CoreKept
 pub mod HoldingsView
-pub mod Freeing
-pub mod Placing
+pub mod Free
+pub mod Malloc
 pub mod PoolView
-pub mod Standings
+pub mod Standing
 pub mod Tables
 pub mod TableSteps
 pub mod Unasked

@@ -3,6 +3,7 @@
 use Rattle.std.specs.Prelude.{◌≡◌, ℕ, ◌+◌, ◌-◌, ◌^◌, ◌<◌, ◌≤◌, ◌⊎◌, Bool, true, false, [], ◌∷◌, ◌++◌, length, Option}
 use Rattle.om_opts.specs.declared.options.Opts.{Opts}
 use Rattle.om_words.specs.DrawnWords.{Source}
+use Rattle.om_model.specs.Data.CallEntry.{CallEntry}
 use Rattle.om_model.specs.Data.Room.{Entries}
 use Rattle.om_model.specs.Pool.Journal.{IsLawful, GivesUp, MayAnswer, entry_of, state_of, wish_of}
 use Rattle.om_model.specs.Pool.Rules.{Rules}
@@ -21,7 +22,7 @@ use Rattle.om_model.specs.declared.reply.Fault.TheVariants.{OutOfMemory}
 use Rattle.om_model.specs.declared.reply.Why.TheVariants.{NoRun}
 use Rattle.om_broker.specs.declared.broker.Broker as broker
 use Rattle.om_pool.specs.Asking.{IsSameBroker}
-use Rattle.om_pool.specs.Backing.{IsBacked}
+use Rattle.om_pool.specs.Backing.{AddsEntry, IsBacked}
 
 pub record PoolView (B : Type 0) : Type 0 where
   pub rules : Rules
@@ -96,8 +97,12 @@ module _ {B A : Type 0} (g : broker.Ghosts B A) where
   moves_of_pool pool = g.moves_left pool.broker + length pool.state.held
 
   -- What a call makes of the broker: it is of the same arena, with the same part of it; a call takes at most 66 of its
-  -- moves; and no run is said to be wanting where it wasn't asked.
+  -- moves; no run is said to be wanting where it wasn't asked; and it made the moves of the entry, and saw in this call
+  -- all that the entry names.
   pub record UsesBroker (old new : PoolView B) (reply : Reply) : Type 0 where
     pub same : IsSameBroker g old.broker new.broker
     pub spent : moves_of_pool old ≤ moves_of_pool new + 66
     pub asked : says_no_run reply ≡ true → (g.asks old.broker < g.asks new.broker) ⊎ (g.asks new.broker ≡ 2 ^ 64 - 1)
+    pub entry : CallEntry
+    pub added : new.journal.items ≡ old.journal.items ++ Call entry ∷ []
+    pub adds : AddsEntry g old.rules entry old.broker new.broker

@@ -7,7 +7,7 @@ ghost use Rattle.om_model.specs.Pool.Free.{freed_again, slot_holds};
 ghost use Rattle.om_model.specs.Pool.Steps.{unchanged};
 ghost use Rattle.om_model.specs.declared.entry.Entry.TheVariants.{Call};
 ghost use Rattle.om_pool.specs.CoreKept.{core_state, view_of, IsBackedCore, IsCore, HasRoom};
-ghost use Rattle.om_pool.specs.Freeing.{FreeIs, Frees, Evicts, IsLiveAt, IsThere};
+ghost use Rattle.om_pool.specs.Free.{FreeIs, Frees, Evicts, IsLiveAt, IsThere};
 ghost use Rattle.om_pool.specs.HoldingsView.{rules_in};
 ghost use Rattle.om_pool.specs.PoolView.{says_no_run, UsesBroker};
 ghost use Rattle.om_pool.specs.Unasked.{unasked_entry, IsQuiet};

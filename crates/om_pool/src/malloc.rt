@@ -10,7 +10,7 @@ ghost use Rattle.om_pool.specs.Asking.{claim_in, IsAsked};
 ghost use Rattle.om_pool.specs.Chunks.{HoldsPage};
 ghost use Rattle.om_pool.specs.CoreKept.{core_state, core_view, view_of, IsLookRoom, IsBackedCore, IsCore, HasRoom};
 ghost use Rattle.om_pool.specs.HoldingsView.{rules_in, tables_in, IsSameBut};
-ghost use Rattle.om_pool.specs.Placing.{reply_for, IsFor, IsOwnPlace, PlacesBlock, PlacesClaimed};
+ghost use Rattle.om_pool.specs.Malloc.{reply_for, IsFor, IsOwnPlace, PlacesBlock, PlacesClaimed};
 ghost use Rattle.om_pool.specs.PoolView.{Takes, UsesBroker};
 ghost use Rattle.om_pool.specs.TableSteps.{settled, IsTied};
 

@@ -6,7 +6,7 @@ ghost use Rattle.om_geom.specs.Numbers.{first_address};
 ghost use Rattle.om_pages.specs.Tables.{kind_of};
 ghost use Rattle.om_pool.specs.ByTables.{at_place_of, standing_by, standing_on};
 ghost use Rattle.om_pool.specs.HoldingsView.{tables_in};
-ghost use Rattle.om_pool.specs.Standings.{standing_of};
+ghost use Rattle.om_pool.specs.Standing.{standing_of};
 ghost use Rattle.om_pool.specs.TableSteps.{IsTied};
 
 use crate::holdings::Holdings;

@@ -31,7 +31,7 @@ returns-clause-uses g c =
     let took = c.load.ensures.taken in
     let Uses : PoolView g.row.B.Denot → Type 0 = λ old. UsesBroker g.B.Broker old (view_of c.load.new.self c.self.inside.broker) c.load.result in
     subst Uses c.self.view_is
-    (uses-quiet g.B.Broker core c.load.new.self c.self.inside.broker c.load.result c.load.ensures.quiet.held
+    (uses-quiet g.B.Broker core c.load.new.self c.self.inside.broker c.args.who (Load c.args.addr.0) c.load.result c.load.ensures.quiet
     (ap says_no_run took.reply_is ∙ load-says (rules_in core.state) (core_state core) c.args.addr.0))
 
 pub invariant_of-self : goal.invariant_of-self

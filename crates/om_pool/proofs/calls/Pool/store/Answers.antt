@@ -31,7 +31,7 @@ returns-clause-uses g c =
     let took = c.store.ensures.taken in
     let Uses : PoolView g.row.B.Denot → Type 0 = λ old. UsesBroker g.B.Broker old (view_of c.store.new.self c.self.inside.broker) c.store.result in
     subst Uses c.self.view_is
-    (uses-quiet g.B.Broker core c.store.new.self c.self.inside.broker c.store.result c.store.ensures.quiet.held
+    (uses-quiet g.B.Broker core c.store.new.self c.self.inside.broker c.args.who (Store c.args.addr.0 c.args.byte) c.store.result c.store.ensures.quiet
     (ap says_no_run took.reply_is ∙ store-says (rules_in core.state) (core_state core) c.args.addr.0 c.args.byte))
 
 pub invariant_of-self : goal.invariant_of-self

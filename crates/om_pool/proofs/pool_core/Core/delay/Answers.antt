@@ -18,7 +18,7 @@ use Rattle.om_words.specs.DrawnWords.{WordSource}
 use Rattle.om_pool.specs.Asking.{IsLeft}
 use Rattle.om_pool.specs.Chunks.{HoldsPlace}
 use Rattle.om_pool.specs.CoreKept.{core_state}
-use Rattle.om_pool.specs.Freeing.{IsThere}
+use Rattle.om_pool.specs.Free.{IsThere}
 use Rattle.om_pool.specs.HoldingsView.{rules_in, tables_in}
 use Rattle.om_pool.specs.TableSteps.{delayed_place, freed_filled}
 use Rattle.om_pool.specs.Tables.{Tables, StandFor}
@@ -146,6 +146,6 @@ returns g c =
     record {
       kept = kept old new _ _ _ _ _ _ _ is does;
       backed = backed-let_go g.B.Broker old new b b_new c.args.who (Free c.args.address) reply.Done c.one.result release does.rules left_is added c.requires.backed;
-      uses = uses-left g.B.Broker old new b b_new reply.Done release (core-sound old is).ascends left_is refl;
+      uses = uses-left g.B.Broker old new b b_new c.args.who (Free c.args.address) reply.Done c.one.result release added (core-sound old is).ascends left_is refl;
       taken = taken old new _ _ _ _ _ _ _ is does;
     }

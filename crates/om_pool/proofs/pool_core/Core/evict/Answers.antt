@@ -6,7 +6,7 @@ use Rattle.om_pages.specs.TableLaws.{with_run-all}
 use Rattle.om_pages.specs.Tables.{AreAll, with_run}
 use Rattle.om_pages.specs.declared.kind.PageKind.{PageKind}
 use Rattle.om_pages.specs.declared.kind.PageKind.TheVariants as page_is
-use Rattle.om_pool.specs.Freeing.{IsThere}
+use Rattle.om_pool.specs.Free.{IsThere}
 use Rattle.om_pool.specs.HoldingsView.{tables_in}
 use Rattle.om_pool.specs.TableSteps.{page_goes}
 use Rattle.om_pool.specs.Tables.{Tables}

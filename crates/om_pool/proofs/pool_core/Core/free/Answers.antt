@@ -2,10 +2,12 @@ use Rattle.std.proofs.Common.{sym, ap, ◌∙◌}
 use mathlib.Core.Logic.{⊎_elim}
 use Rattle.om_model.specs.Pool.Standing as at
 use Rattle.om_model.specs.declared.operation.Op.TheVariants.{Free}
-use Rattle.om_pool.specs.Standings.{standing_of}
+use Rattle.om_pool.specs.Standing.{standing_of}
 use Rattle.om_pool.proofs.CallLaws.{backed-quiet}
+use Rattle.om_pool.specs.PoolView.{says_no_run}
 use Rattle.om_pool.proofs.CoreLaws.{core-tied}
 use Rattle.om_pool.proofs.FreeLaws.{frees-at, stands-at}
+use Rattle.om_pool.proofs.Spending.{uses-quiet}
 use Rattle.om_pool.proofs.pool_core.Core.free.Goals as goal
 
 pub standing-requires : goal.standing-requires
@@ -52,3 +54,18 @@ returns-in-FreePlace-clause-backed g c = backed-quiet g.B.Broker c.args.self.now
 
 pub returns-in-DelayedPlace-clause-backed : goal.returns-in-DelayedPlace-clause-backed
 returns-in-DelayedPlace-clause-backed g c = backed-quiet g.B.Broker c.args.self.now c.free_again.new.self c.args.broker.now c.args.who (Free c.args.address) c.free_again.result c.free_again.ensures.quiet c.requires.backed
+
+pub returns-in-NotHeld-clause-uses : goal.returns-in-NotHeld-clause-uses
+returns-in-NotHeld-clause-uses g c = uses-quiet g.B.Broker c.args.self.now c.answer.new.self c.args.broker.now c.args.who (Free c.args.address) c.answer.result c.answer.ensures.quiet (ap says_no_run c.answer.ensures.reply)
+
+pub returns-in-FreePage-clause-uses : goal.returns-in-FreePage-clause-uses
+returns-in-FreePage-clause-uses g c = uses-quiet g.B.Broker c.args.self.now c.answer-in-FreePage.new.self c.args.broker.now c.args.who (Free c.args.address) c.answer-in-FreePage.result c.answer-in-FreePage.ensures.quiet (ap says_no_run c.answer-in-FreePage.ensures.reply)
+
+pub returns-in-Unaligned-clause-uses : goal.returns-in-Unaligned-clause-uses
+returns-in-Unaligned-clause-uses g c = uses-quiet g.B.Broker c.args.self.now c.answer-in-Unaligned.new.self c.args.broker.now c.args.who (Free c.args.address) c.answer-in-Unaligned.result c.answer-in-Unaligned.ensures.quiet (ap says_no_run c.answer-in-Unaligned.ensures.reply)
+
+pub returns-in-FreePlace-clause-uses : goal.returns-in-FreePlace-clause-uses
+returns-in-FreePlace-clause-uses g c = uses-quiet g.B.Broker c.args.self.now c.answer-in-FreePlace.new.self c.args.broker.now c.args.who (Free c.args.address) c.answer-in-FreePlace.result c.answer-in-FreePlace.ensures.quiet (ap says_no_run c.answer-in-FreePlace.ensures.reply)
+
+pub returns-in-DelayedPlace-clause-uses : goal.returns-in-DelayedPlace-clause-uses
+returns-in-DelayedPlace-clause-uses g c = uses-quiet g.B.Broker c.args.self.now c.free_again.new.self c.args.broker.now c.args.who (Free c.args.address) c.free_again.result c.free_again.ensures.quiet c.free_again.ensures.reply

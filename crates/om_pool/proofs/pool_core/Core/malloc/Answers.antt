@@ -23,11 +23,12 @@ use Rattle.om_pool.specs.Asking.{claim_in, IsAsked}
 use Rattle.om_pool.specs.Backing.{IsBacked}
 use Rattle.om_pool.specs.CoreKept.{core_state, IsCore}
 use Rattle.om_pool.specs.HoldingsView.{rules_in, tables_in, with_drawn}
-use Rattle.om_pool.specs.Placing.{reply_for, IsFor, IsOwnPlace, PlacesBlock}
+use Rattle.om_pool.specs.Malloc.{reply_for, IsFor, IsOwnPlace, PlacesBlock}
 use Rattle.om_pool.specs.TableSteps.{IsTied, OwnPlace}
 use Rattle.om_pool.specs.Tables.{Tables, StandFor}
 use Rattle.om_pool.specs.declared.holdings.Holdings.{Holdings}
 use Rattle.om_pool.specs.declared.pool_core.Core.{Core}
+use Rattle.om_pool.proofs.EntryLaws.{adds-asked}
 use Rattle.om_pool.proofs.CallLaws.{backed-asked}
 use Rattle.om_pool.proofs.CoreLaws.{core-sound, core-tied, core_drawn, entry_with, kept, same-rules, taken}
 use Rattle.om_pool.proofs.MallocLaws.{claim-there, fresh, held-is, is-for, malloc-does, malloc-pages, malloc-searched, may-asked, uses-asked, IsMalloc}
@@ -221,16 +222,17 @@ returns g c =
     let held = held-is old new c.args.who own first second class size site looks answer result reply is malloced c.requires.served class_is reply_is added in
     let entry = entry_with c.args.who (Malloc size site) reply (first ∷ second ∷ []) answers None in
     let Backed : Rules → List ℕ → List Entry → Type 0 = λ r pages es. IsBacked g.B.Broker r pages es after in
+    let searched = malloc-searched old new c.args.who own first second class size site looks answer result reply is malloced c.requires.served class_is reply_is added in
+    let sought = malloc-pages old new c.args.who own first second class size site looks answer result reply is malloced c.requires.served class_is reply_is added in
     record {
       kept = kept old new _ _ _ _ _ _ _ is does;
       backed =
           subst (λ r. Backed r (core_state new).held new.journal.items) (sym does.rules)
           (subst (λ pages. Backed rules pages new.journal.items) (sym held)
           (subst (Backed rules _) (sym added)
-          (backed-asked g.B.Broker rules state.held old.journal.items before after c.requires.backed entry first refl refl
-          (malloc-searched old new c.args.who own first second class size site looks answer result reply is malloced c.requires.served class_is reply_is added)
-          (malloc-pages old new c.args.who own first second class size site looks answer result reply is malloced c.requires.served class_is reply_is added)
-          (is_some own) answer refl asked)));
-      uses = uses-asked g.B.Broker old new before after own first second size site looks answer result reply ((core-sound old is).ascends) c.requires.backed asked held places.address_is reply_is;
+          (backed-asked g.B.Broker rules state.held old.journal.items before after c.requires.backed entry first refl refl searched sought (is_some own) answer refl asked)));
+      uses = uses-asked g.B.Broker old new before after own first second size site looks answer result reply entry added
+          (adds-asked g.B.Broker rules before after entry first refl refl searched sought (is_some own) answer refl asked)
+          ((core-sound old is).ascends) c.requires.backed asked held places.address_is reply_is;
       taken = taken old new _ _ _ _ _ _ _ is does;
     }
