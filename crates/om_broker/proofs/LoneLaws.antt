@@ -2,6 +2,7 @@
 use Rattle.std.proofs.Common.{◌≡◌, ℕ, ◌+◌, ◌-◌, ◌*◌, ◌/◌, ◌%◌, ◌<◌, ◌≤◌, true, false, not, ◌&&◌, ◌||◌, List, [], ◌∷◌, ◌++◌, length, map, get_or, replicate, sum_by, Some, None, refl, sym, subst, ◌∙◌, ap, arith, slice_index, append-nil}
 use Rattle.std.specs.Prelude.{All}
 use Rattle.std.specs.List.{AllByRecursion, range_with_len}
+use Rattle.std.proofs.Math.Bool.{and-false, and-true, or-false, or-true}
 use Rattle.std.proofs.lemmas.Bool.{cases_eq, true≢false}
 use Rattle.std.proofs.lemmas.List.{get_or-map, get_or-replicate, length-replicate, get_or_append_left, length-append, length-map}
 use Rattle.std.proofs.lemmas.List.Elements.{Contains-push}
@@ -27,7 +28,7 @@ use Rattle.om_broker.specs.Zones.{ZoneTable, AreFree, ArePassed, HasHeld, IsClai
 use Rattle.om_broker.specs.ZoneStand.{HasMade, seen_in}
 use Rattle.om_broker.proofs.HomeLaws.{all-home, come-inside, come-outside, left-inside, left-outside}
 use Rattle.om_broker.proofs.Lists.{all-range, count-both, count-run}
-use Rattle.om_broker.proofs.Runs.{and-false, and-true, in-run, not-in-run, or-false, or-true, run-cases, run-other, run-shift}
+use Rattle.om_broker.proofs.Runs.{in-run, not-in-run, run-cases, run-other, run-shift}
 use Rattle.om_broker.proofs.ZoneLaws.{IsNextMove, Stands-push, claim-next, has-held, has-inside, left-push, moved-held, moved-lengths, moved-made, moved-pages, moved-version, moved-zones, newer, no-older, release-next, seen-left}
 use mathlib.Core.Logic.{⊎_elim}
 

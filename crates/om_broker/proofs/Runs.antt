@@ -1,6 +1,7 @@
 -- The pages of a run of bits of a zone, and how a run that is claimed or released shows in the bits.
 use Rattle.std.proofs.Common.{◌≡◌, ◌≢◌, ℕ, zero, suc, ◌+◌, ◌*◌, ◌/◌, ◌%◌, ◌^◌, ◌<◌, ◌≤◌, Bool, true, false, not, ◌&&◌, ◌||◌, nat_le, nat_lt, ◌⊎◌, inl, inr, refl, sym, subst, ◌∙◌, ap, arith}
 use Rattle.std.proofs.lemmas.Bool.{cases_Bool, cases_lt, and_from, and_parts, and_left, and_right, lt-leb, le-leb, lt-ltb, le-ltb, leb-true, ltb-true}
+use Rattle.std.proofs.Math.Bool.{and-true, and-false}
 use Rattle.om_geom.specs.Fit.{has_bit, is_in_run}
 use Rattle.om_geom.specs.BitLaws.{same_from_has_bit}
 use Rattle.om_broker.specs.Zones.{HasHeld}
@@ -66,22 +67,6 @@ free-or-held is_set first (suc n) = ⊎_elim
 
 abbrev Cleared : ℕ → ℕ → ℕ → ℕ → Type 0
 Cleared bits cleared first n = (i : ℕ) → i < 32 → has_bit cleared i ≡ (has_bit bits i && not (is_in_run first n i))
-
-pub and-true : (b : Bool) → (b && true) ≡ b
-and-true true = refl
-and-true false = refl
-
-pub and-false : (b : Bool) → (b && false) ≡ false
-and-false true = refl
-and-false false = refl
-
-pub or-true : (b : Bool) → (b || true) ≡ true
-or-true true = refl
-or-true false = refl
-
-pub or-false : (b : Bool) → (b || false) ≡ b
-or-false true = refl
-or-false false = refl
 
 -- clearing the bits of a run changes nothing exactly where none of them was set
 pub cleared-same : (bits first n : ℕ) → first + n ≤ 32 → Cleared bits bits first n → (bit : ℕ) → first ≤ bit → bit < first + n → has_bit bits bit ≡ false

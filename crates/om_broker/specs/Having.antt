@@ -1,4 +1,4 @@
--- What whoever uses a broker keeps of it from call to call.
+-- What a user of a broker can keep of it from call to call, where every call goes through it.
 use Rattle.std.specs.Prelude.{◌+◌, ◌≤◌, List, Contains}
 use Rattle.std.specs.List.{AllByRecursion}
 use Rattle.om_geom.specs.Numbers.{zone_pages}

@@ -103,9 +103,10 @@ pub trait Broker: Drop {
 
     // Where the broker has its whole arena to itself, its moves are in zone order, and all that it has seen
     // is what they leave.
-    ghost whole_order: { (b : Self) (moves : List ZoneMove) (sight : List Seen) → made b moves sight
-        → part b ≡ share (arena b) → IsZoneOrder moves };
+    ghost whole_order: { (b : Self) (moves : List ZoneMove) (sight : List Seen)
+        → made b moves sight → part b ≡ share (arena b) → IsZoneOrder moves };
 
-    ghost whole_sight: { (b : Self) (moves : List ZoneMove) (sight : List Seen) → made b moves sight
-        → part b ≡ share (arena b) → AllByRecursion (IsLeft moves) sight };
+    ghost whole_sight: { (b : Self) (moves : List ZoneMove) (sight : List Seen)
+        → made b moves sight → part b ≡ share (arena b)
+        → AllByRecursion (IsLeft moves) sight };
 }

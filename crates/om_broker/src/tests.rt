@@ -1,11 +1,11 @@
 //! Claims and releases of a broker that is alone, as tables.
-ghost use Rattle.std.specs.Prelude.{◌+◌, ◌≤◌};
+ghost use Rattle.std.specs.Prelude.{◌≡◌, ◌+◌, ◌≤◌};
 
 use crate::{Broker, Claim, ClaimAt, LoneBroker};
 use om_geom::Zone;
 use om_model::{Look, LookList, Move};
 use std::alloc::{AllocError, Global};
-use std::marker::Model;
+use std::marker::{Model, Send};
 use std::process::Abort;
 use std::sync::Wait;
 use std::test::Fail;
@@ -32,6 +32,13 @@ impl Model for Trial {
         × (length (t.broker.table).bits ≤ most_zones) × KeepsSight (HasMade t.broker.table) };
 }
 
+// A broker may move to another thread.
+fn moves<T: Send>(value: T) -> T
+    ensures { result ≡ value }
+{
+    value
+}
+
 #[derive(Clone, Copy)]
 enum Ask {
     /// So many pages, by a word.
@@ -55,7 +62,7 @@ impl Trial {
         requires some { 1 ≤ zones }
         requires few { zones ≤ 64 }
     {
-        let broker = LoneBroker::new(alloc, zones)?;
+        let broker = moves(LoneBroker::new(alloc, zones)?);
         Ok(Trial { broker, room: 1000 })
     }
 

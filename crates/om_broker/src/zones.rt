@@ -62,10 +62,8 @@ impl Zones {
         ensures claim { ClaimGives self.old self.new n word (length looks.new.items) result }
         ensures spare { looks.old.spare ≤ looks.new.spare + length looks.new.items }
     {
-        match self.search(n, word, looks) {
-            Some(found) => Some(self.take(found.zone, found.first, n)),
-            None => None,
-        }
+        let found = self.search(n, word, looks)?;
+        Some(self.take(found.zone, found.first, n))
     }
 
     /// Takes `n` pages of the zone, from the first on. The error is a look at a zone where a page

@@ -42,7 +42,10 @@ impl Model for ChunkPages {
 
     ghost Value = { PageList };
 
-    ghost view = { λ c. record { pages = c.pages.items; spare = if is_some c.room then 1 else 0 } };
+    ghost view = { λ c. record {
+      pages = c.pages.items;
+      spare = if is_some c.room then 1 else 0;
+    } };
 
     ghost invariant = { λ c. (length c.pages.items ≤ 2048)
         × IfSome c.room (λ room. (room.items ≡ []) × (256 ≤ vec_capacity room))
@@ -189,10 +192,7 @@ impl ChunkPages {
     fn page(&self, page: usize) -> Option<&PagePlaces>
         ensures { option_map (λ there. there.now) result ≡ page_in self.now.pages page }
     {
-        match self.pages.get(page) {
-            Some(there) => there.as_ref(),
-            None => None,
-        }
+        self.pages.get(page)?.as_ref()
     }
 
     // The class of a page, where no place of it is live or delayed.
@@ -252,10 +252,7 @@ impl ChunkPages {
         ensures free { IfSome result (λ place. IfSome (page_in self.now.pages page)
             (λ there. IsFreeOn self.now.pages there.class page place)) }
     {
-        match self.page(page as usize) {
-            Some(there) => there.picked_place(word),
-            None => None,
-        }
+        self.page(page as usize)?.picked_place(word)
     }
 }
 

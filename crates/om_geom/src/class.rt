@@ -1,6 +1,7 @@
-ghost use Rattle.std.specs.Prelude.{◌≡◌, ◌*◌, ◌≤◌, IsTrue, IfSome};
+ghost use Rattle.std.specs.Prelude.{◌≡◌, ◌*◌, ◌≤◌, nat_eq, IsTrue, IfSome};
+ghost use Rattle.std.specs.List.{list_any};
 ghost use Rattle.std.specs.Option.{option_map};
-ghost use Rattle.om_geom.specs.Classes.{class_of, least_class, is_class, data_pages, stride_of, places_of};
+ghost use Rattle.om_geom.specs.Classes.{chunk_classes, class_of, least_class, is_class, data_pages, stride_of, places_of};
 ghost use Rattle.om_geom.specs.Numbers.{page_size, largest_class};
 
 use crate::address::PAGE_SIZE;
@@ -13,6 +14,19 @@ pub const LARGEST_CLASS: u32 = 2048;
 pub struct Class(pub u32);
 
 const CHUNK_CLASSES: [u32; 8] = [16, 32, 64, 128, 256, 512, 1024, LARGEST_CLASS];
+
+/// Whether it is the number of a class.
+pub fn is_class(class: u32) -> bool
+    ensures { result ≡ is_class class }
+{
+    class == 0 || is_chunk_class(class)
+}
+
+fn is_chunk_class(class: u32) -> bool
+    ensures { result ≡ list_any (nat_eq class) chunk_classes }
+{
+    CHUNK_CLASSES.iter().any(|chunk| class == *chunk)
+}
 
 /// The class of a size in bytes, with canaries or without; none for a page block.
 pub fn class_of(size: u64, canary: bool) -> Option<Class>
@@ -85,6 +99,16 @@ mod tests {
         }
         assert_eq!(rt; class_of(2048, true), None);
         assert_eq!(rt; class_of(u64::MAX, true), None);
+    }
+
+    #[test]
+    fn numbers_of_classes(rt: HostRuntime) {
+        for class in [0, 16, 32, 64, 128, 256, 512, 1024, 2048] {
+            assert!(rt; is_class(class), "at {class}");
+        }
+        for other in [1, 15, 48, 2047, 4096] {
+            assert!(rt; !is_class(other), "at {other}");
+        }
     }
 
     #[test]

@@ -9,7 +9,8 @@ pub fn fit(bits: u32, n: u32, start: u32) -> Option<u32>
     requires start { start < 32 }
     ensures value { result ≡ fit_of (has_bit bits) n start }
     ensures within { IfSome result (λ p. p + n ≤ 32) }
-    ensures clear { IfSome result (λ p. (i : ℕ) → p ≤ i → i < p + n → has_bit bits i ≡ false) }
+    ensures clear { IfSome result (λ p.
+        (i : ℕ) → p ≤ i → i < p + n → has_bit bits i ≡ false) }
 {
     first_clear_run(bits, n, start)
 }
@@ -18,7 +19,8 @@ pub fn fit(bits: u32, n: u32, start: u32) -> Option<u32>
 pub fn set_run(bits: u32, first: u32, n: u32) -> u32
     requires some_bit { 1 ≤ n }
     requires within { first + n ≤ 32 }
-    ensures bits { (i : ℕ) → i < 32 → has_bit result i ≡ (has_bit bits i || is_in_run first n i) }
+    ensures bits { (i : ℕ) → i < 32 →
+        has_bit result i ≡ (has_bit bits i || is_in_run first n i) }
 {
     bits | run_mask(first, n)
 }

@@ -54,7 +54,8 @@ impl Model for MemSource {
       made = source.calls.made;
     } };
 
-    ghost invariant = { λ source. (source.given ≤ vec_len source.bytes) × (1 ≤ source.piece) };
+    ghost invariant = { λ source.
+        (source.given ≤ vec_len source.bytes) × (1 ≤ source.piece) };
 }
 
 impl MemSource {
@@ -143,7 +144,8 @@ impl MemSink {
     /// fail.
     pub fn new(alloc: Global, piece: usize, failing: Vec<u64>) -> Self
         requires { 1 ≤ piece }
-        ensures { result ≡ record { taken = []; piece = piece; listed = failing.items; made = 0 } }
+        ensures { result ≡
+            record { taken = []; piece = piece; listed = failing.items; made = 0 } }
     {
         MemSink {
             bytes: Vec::new(alloc),

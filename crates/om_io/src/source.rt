@@ -62,7 +62,8 @@ pub trait Source {
         requires { 0 < length buf.old }
         ensures count { IfOk result (λ n. n ≤ length buf.new) }
         ensures given { IfOk result (λ n. Gives (left self.old) (left self.new) (take n buf.new)) }
-        ensures end { IfOk result (λ n. IfSome (left self.old) (λ bytes. (n ≡ 0) ↔ (bytes ≡ []))) }
+        ensures end { IfOk result (λ n.
+            IfSome (left self.old) (λ bytes. (n ≡ 0) ↔ (bytes ≡ []))) }
         ensures kept { OnErr result (left self.new ≡ left self.old) }
         ensures still { OnOk result (faults self.new ≡ faults self.old) }
         ensures cause { OnErr result (faults self.old < faults self.new) }
@@ -83,8 +84,10 @@ pub fn read_all<S: Source>(alloc: Global, source: &mut S) -> Result<Vec<u8>, Rea
     ensures told { is_some (S.left source.new) ≡ is_some (S.left source.old) }
     ensures still { OnOk result (S.faults source.new ≡ S.faults source.old) }
     ensures long { IsErrOf result ReadStop.TooLong → S.faults source.new ≡ S.faults source.old }
-    ensures memory { IsErrOf result ReadStop.Memory → S.faults source.new ≡ S.faults source.old }
-    ensures cause { IsErrOf result ReadStop.ReadFault → S.faults source.old < S.faults source.new }
+    ensures memory { IsErrOf result ReadStop.Memory →
+        S.faults source.new ≡ S.faults source.old }
+    ensures cause { IsErrOf result ReadStop.ReadFault →
+        S.faults source.old < S.faults source.new }
 {
     let mut bytes = Vec::new(alloc);
     let mut buffer = [0; BUFFER_SIZE];

@@ -82,7 +82,8 @@ impl<W: Write> Sink for StdSink<W> {
             piece.now }
         ensures count { IfOk result (λ n. (1 ≤ n) × (n ≤ length piece.now)) }
         ensures still { OnOk result (self.new.faults ≡ self.old.faults) }
-        ensures cause { IsErrOf result WriteStop.Failed → self.new.faults ≡ self.old.faults + 1 }
+        ensures cause { IsErrOf result WriteStop.Failed →
+            self.new.faults ≡ self.old.faults + 1 }
         ensures memory { IsErrOf result WriteStop.Memory → self.new.faults ≡ self.old.faults }
         ensures full { IsErrOf result WriteStop.Memory → self.old.faults ≡ last_number }
     {

@@ -12,6 +12,7 @@ use Rattle.om_frame.specs.Memory.{page_bytes, no_pages}
 use Rattle.om_frame.specs.MemoryLaws.{length-with_bytes, length-page-with_bytes}
 use Rattle.om_geom.specs.declared.address.Extent.{Extent}
 use Rattle.om_geom.specs.Numbers.{page_size, zone_pages}
+use Rattle.om_geom.specs.Classes.{data_pages}
 use Rattle.om_model.specs.Pool.Junk.{fresh_byte, freed_byte, freed_len, data_extent, extent_of_place, with_fresh_junk, with_freed_place, with_freed_pages}
 use Rattle.om_model.specs.Pool.Rules.{Rules}
 use Rattle.om_model.specs.Pool.Runs.{Run, is_page_of}
@@ -146,7 +147,7 @@ module _ (rules : Rules) (state : State) (is : IsSound rules state) where
 
   pub freed_pages-sound : (block : Block) → IsSound rules (with_freed_pages rules block state)
   unfolding with_freed_pages
-  freed_pages-sound block = filled-sound freed_byte (record { first = block.address; len = freed_len rules.options.junk block.size })
+  freed_pages-sound block = filled-sound freed_byte (record { first = block.address; len = freed_len rules.options.junk (data_pages block.size) })
 
   pub freed-sound : (place : Place) → IsSound rules (with_freed_place rules place state)
   unfolding with_freed_place

@@ -199,7 +199,7 @@ module _ (rules : Rules) (state : State) (is : IsSound rules state) where
     begins-on : (one : Use) → IsPlaced rules state.held one → (one.extent).first ≡ block.address → touches (page_at address) one ≡ true
     begins-on one on first = let P : ℕ → Type 0 = λ page. touches page one ≡ true in subst P (ap page_at (first ∙ block-here)) (touches-first one on.shape)
 
-    without-sound : IsSound rules (without_block state address)
+    pub without-sound : IsSound rules (without_block state address)
     without-sound =
         let sound = is.sound in
         record {

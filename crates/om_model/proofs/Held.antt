@@ -4,6 +4,7 @@ use Rattle.std.specs.List.{filter, range_with_len, AllByRecursion}
 use Rattle.std.proofs.lemmas.Bool.{eqb-true, leb-true, or_left, or_right, ltb-true}
 use Rattle.std.proofs.lemmas.Bool.Decides.{nat_tests}
 use Rattle.std.proofs.lemmas.List.Folds.{list_any-append}
+use Rattle.std.proofs.Math.Bool.{and-false}
 use Rattle.om_geom.specs.Fit.{is_in_run}
 use Rattle.om_model.specs.Pool.Runs.{Run, is_page_of}
 use Rattle.om_model.specs.Pool.State.{is_held, with_run, without_run}
@@ -21,13 +22,9 @@ all-held (x ∷ xs) = (
   all-weaker (λ page. is_held xs page ≡ true) (λ page. is_held (x ∷ xs) page ≡ true) xs (λ page there. or_right _ _ there) (all-held xs),
 )
 
-and_false : (b : Bool) → (b && false) ≡ false
-and_false true = refl
-and_false false = refl
-
 held_step : (found rest within passes here : Bool) → (found ≡ true → here ≡ passes) → within ≡ (rest && passes) → cond here (found || within) within ≡ ((found || rest) && passes)
 held_step true rest within true here same ih = rw (same refl) refl
-held_step true rest within false here same ih = rw (same refl) (ih ∙ and_false rest)
+held_step true rest within false here same ih = rw (same refl) (ih ∙ and-false rest)
 held_step false rest within passes true same ih = ih
 held_step false rest within passes false same ih = ih
 

@@ -1,10 +1,9 @@
 -- At each place of a lawful journal the state is sound, and so well formed.
-use Rattle.std.proofs.Common.{◌≡◌, ℕ, Bool, true, false, if◌then◌else◌, List, [], ◌∷◌, ◌++◌, Option, Some, None, refl, subst, append-nil, sym}
+use Rattle.std.proofs.Common.{ℕ, List, [], ◌∷◌, ◌++◌, Option, Some, None, refl, subst, append-nil, sym}
 use Rattle.om_model.specs.Pool.Rules.{Rules}
 use Rattle.om_model.specs.Pool.State.{State, opening}
-use Rattle.om_model.specs.Pool.Steps.{Nothing, Answers}
-use Rattle.om_model.specs.Pool.Malloc.{malloc_wish, malloc}
-use Rattle.om_model.specs.Pool.Journal.{is_served, wish_of, step_of, MayAnswer, next_of, after, state_from, state_of, IsLawfulFrom, IsLawful, IsLawfulEntry, answers_of}
+use Rattle.om_model.specs.Pool.Steps.{Answers}
+use Rattle.om_model.specs.Pool.Journal.{wish_of, step_of, MayAnswer, next_of, after, state_from, state_of, IsLawfulFrom, IsLawful, IsLawfulEntry, answers_of}
 use Rattle.om_model.specs.Pool.Access.{barred, load_unless, store_unless}
 use Rattle.om_model.specs.Pool.WellFormed.{IsWellFormed}
 use Rattle.om_model.specs.declared.entry.Entry.{Entry}
@@ -17,12 +16,6 @@ use Rattle.om_model.proofs.Bytes.{opening-pages, opening-bytes, written-sound}
 use Rattle.om_model.proofs.Malloc.{malloc-sound}
 use Rattle.om_model.proofs.Free.{free-sound}
 
-served-sound : (rules : Rules) (state : State) (size site : ℕ) (answers : Answers) (served : Bool) → is_served rules size ≡ served
-    → MayAnswer rules state (if served then malloc_wish rules state size else Nothing) answers → IsSound rules state
-    → IsSound rules (next_of state (if served then Some (malloc rules state size site answers.claim) else None))
-served-sound rules state size site answers true served may is = malloc-sound rules size state site answers may is
-served-sound rules state size site answers false served may is = is
-
 load-sound : (rules : Rules) (state : State) (address : ℕ) (bar : Option Reply) → IsSound rules state → IsSound rules ((load_unless state address bar).next)
 load-sound rules state address (Some reply) is = is
 load-sound rules state address None is = is
@@ -33,7 +26,7 @@ store-sound rules state address byte None is = written-sound rules state is addr
 
 -- operations that have no step leave the state as it is
 op-sound : (rules : Rules) (state : State) (op : Op) (answers : Answers) → MayAnswer rules state (wish_of rules state op) answers → IsSound rules state → IsSound rules (next_of state (step_of rules state op answers))
-op-sound rules state (Malloc size site) answers may is = served-sound rules state size site answers (is_served rules size) refl may is
+op-sound rules state (Malloc size site) answers may is = malloc-sound rules size state site answers may is
 op-sound rules state (Free address) answers may is = free-sound rules state is address
 op-sound rules state (Calloc count size site) answers may is = is
 op-sound rules state (Realloc address size site) answers may is = is

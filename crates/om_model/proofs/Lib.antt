@@ -19,7 +19,6 @@ pub mod PlainJournals
 pub mod PlainMemory
 pub mod PlainText
 pub mod PlainValues
-pub mod Served
 pub mod Sound
 pub mod Steps
 pub mod Titles

@@ -68,7 +68,7 @@ module _ (rules : Rules) (size class : ℕ) (class_is : size_class rules size �
   pub chunk-uses : (address site : ℕ) → uses_of_block rules (record { address = address; size = size; site = site }) ≡ use_of_place (record { address = address; class = class }) ∷ []
   chunk-uses address site = ap (uses_by_class rules (record { address = address; size = size; site = site })) class_is
 
-  chunk-fits : is_too_large rules size ≡ false
+  pub chunk-fits : is_too_large rules size ≡ false
   chunk-fits = ap (λ found. is_none found && nat_lt zone_pages (block_pages rules size)) class_is
 
   pub chunk-page : (state : State) → page_for rules state size ≡ own_page (uses rules state) state.held class (word_at rules state.drawn)

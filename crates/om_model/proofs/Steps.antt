@@ -12,7 +12,7 @@ use Rattle.om_model.specs.Pool.Standing.{Standing, NotHeld, FreePage, PageBlock,
 use Rattle.om_model.specs.Pool.Free.{Freed, is_surplus, kept_or_let_go, evicted, without_block, drawn_slot, slot_of, into_slot, put_off, delay, freed_again, free_at, free}
 use Rattle.om_model.specs.Pool.Access.{barred, load_unless, store_unless}
 use Rattle.om_model.specs.Pool.Junk.{with_freed_pages}
-use Rattle.om_model.specs.Pool.Journal.{is_served, step_of, answers_of, next_of, after, state_from, state_of}
+use Rattle.om_model.specs.Pool.Journal.{step_of, answers_of, next_of, after, state_from, state_of}
 use Rattle.om_model.specs.declared.block.Block.{Block}
 use Rattle.om_model.specs.declared.block.Place.{Place}
 use Rattle.om_model.specs.declared.entry.Entry.{Entry}
@@ -108,13 +108,8 @@ store-drawn state address byte None = refl
 
 -- ---- at most two words for each entry
 
-served-drawn : (rules : Rules) (state : State) (size site : ℕ) (answers : Answers) (served : Bool)
-    → (next_of state (if served then Some (malloc rules state size site answers.claim) else None)).drawn ≤ state.drawn + 2
-served-drawn rules state size site answers true = malloc-drawn rules state size site answers.claim
-served-drawn rules state size site answers false = omega arith
-
 op-drawn : (rules : Rules) (state : State) (op : Op) (answers : Answers) → (next_of state (step_of rules state op answers)).drawn ≤ state.drawn + 2
-op-drawn rules state (Malloc size site) answers = served-drawn rules state size site answers (is_served rules size)
+op-drawn rules state (Malloc size site) answers = malloc-drawn rules state size site answers.claim
 op-drawn rules state (Free address) answers = omega (arith, free-drawn rules state address, free-few rules state address)
 op-drawn rules state (Calloc count size site) answers = omega arith
 op-drawn rules state (Realloc address size site) answers = omega arith

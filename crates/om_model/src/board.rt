@@ -1,3 +1,6 @@
+/// How many cells a board has.
+pub const CELL_COUNT: usize = 64;
+
 /// An entry of the board: a number put into a cell, a number taken out of one, or the beginning of a
 /// phase.
 #[derive(Clone, Copy, Debug, PartialEq, Eq)]
@@ -17,9 +20,9 @@ pub enum BoardEntry {
     Phase(u32),
 }
 
-/// The board on which scripts hand numbers to each other: 64 cells, and what was done to them.
+/// The board on which scripts hand numbers to each other: its cells, and what was done to them.
 #[derive(Drop)]
 pub struct Board {
-    cells: [Option<u64>; 64],
+    cells: [Option<u64>; CELL_COUNT],
     entries: Vec<BoardEntry>,
 }

@@ -7,7 +7,7 @@ use crate::ranges::words_fit;
 use std::marker::Model;
 use std::slice;
 
-/// The words that one call drew, at most 4.
+/// The words that one call drew. There is room for 4, of which a call takes at most three.
 #[derive(Drop)]
 pub struct Drawn {
     words: [u32; 4],

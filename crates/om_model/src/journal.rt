@@ -74,7 +74,7 @@ impl Journal {
         self.entries.is_empty()
     }
 
-    /// A law of the type: every number in it is one that its type holds, and no call drew more than 4 words.
+    /// A law of the type: every number in it is one that its type holds, and no entry has more than 4 words.
     pub fn fits(&self)
         ensures { FitsJournal self.now.items }
     {

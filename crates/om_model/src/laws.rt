@@ -21,10 +21,12 @@ pub fn blocks_are_apart()
 /// state as it is.
 pub fn steps_keep_well_formed()
     ensures malloc { (rules : Rules) (state : State) (size site : ℕ) (answers : Answers)
-        → MayAnswer rules state (malloc_wish rules state size) answers → IsWellFormed rules state
+        → MayAnswer rules state (malloc_wish rules state size) answers
+        → IsWellFormed rules state
         → IsWellFormed rules ((malloc rules state size site answers.claim).next) }
     ensures free { (rules : Rules) (state : State) (address : ℕ) → IsWellFormed rules state
         → IsWellFormed rules ((free rules state address).next) }
-    ensures store { (rules : Rules) (state : State) (address byte : ℕ) → IsWellFormed rules state
+    ensures store { (rules : Rules) (state : State) (address byte : ℕ)
+        → IsWellFormed rules state
         → IsWellFormed rules ((store rules state address byte).next) }
 {}

@@ -18,7 +18,7 @@ pub mod text;
 mod transcript;
 
 pub use block::{Block, Place, SLOT_COUNT};
-pub use board::{Board, BoardEntry};
+pub use board::{Board, BoardEntry, CELL_COUNT};
 pub use content::{Head, Told};
 pub use drawn::Drawn;
 pub use entry::{Asked, CallEntry, Entry, Move, ZoneMove};

@@ -27,7 +27,7 @@ pub enum Fault {
     DoubleFree,
     /// The place is neither live nor delayed.
     AlreadyFree,
-    /// The address is on a page without blocks, or on no page of any pool.
+    /// The address is inside a page block, on a guard or on a free page, or on no page of any pool.
     Bogus,
     /// The address isn't the first byte of a place.
     ModifiedPointer,

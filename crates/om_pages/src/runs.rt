@@ -37,7 +37,8 @@ fn is_free_run(kinds: &[PageKind], n: u32, first: u32) -> bool
 
 fn are_free(kinds: &[PageKind], n: usize, first: usize) -> bool
     requires { first + n ≤ 2 ^ 33 }
-    ensures { result ≡ list_all (λ page. is_free (kind_of kinds.now page)) (range_with_len first n) }
+    ensures { result ≡ list_all (λ page. is_free (kind_of kinds.now page))
+        (range_with_len first n) }
 {
     (first..first + n).all(|page| kind_of(kinds, page).is_free())
 }

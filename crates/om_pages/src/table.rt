@@ -32,7 +32,8 @@ impl Model for PageTable {
 
     ghost view = { λ t. t.kinds.items };
 
-    ghost invariant = { λ t. (length t.kinds.items ≤ 2048) × (t.free ≡ free_count t.kinds.items) };
+    ghost invariant = { λ t. (length t.kinds.items ≤ 2048)
+        × (t.free ≡ free_count t.kinds.items) };
 }
 
 impl PageTable {

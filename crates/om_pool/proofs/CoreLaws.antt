@@ -2,7 +2,7 @@
 use Rattle.std.proofs.Common.{◌≡◌, ℕ, ◌-◌, ◌^◌, ◌<◌, ◌≤◌, true, false, List, [], ◌∷◌, ◌++◌, length, min, if◌then◌else◌, Option, Some, IsSomeAnd, is_some, refl, sym, ap, ◌∙◌, subst, arith}
 use Rattle.om_geom.specs.Numbers.{most_zones}
 use Rattle.om_model.specs.Data.CallEntry.{CallEntry}
-use Rattle.om_model.specs.Pool.Journal.{AreServed, IsLawful, IsLawfulCall, Agrees, GivesUp, MayAnswer, next_of, state_of, step_of, wish_of}
+use Rattle.om_model.specs.Pool.Journal.{IsLawful, IsLawfulCall, Agrees, GivesUp, MayAnswer, next_of, state_of, step_of, wish_of}
 use Rattle.om_model.specs.Pool.Rules.{Rules, canary_byte, words_from}
 use Rattle.om_model.specs.Pool.State.{State}
 use Rattle.om_model.specs.Pool.Steps.{Answers, Step, is_denied, KeepsWhereDenied}
@@ -14,7 +14,6 @@ use Rattle.om_model.specs.declared.operation.Who.{Who}
 use Rattle.om_model.specs.declared.reply.Reply.{Reply}
 use Rattle.om_model.proofs.Journals.{state_of-push, IsLawful-push}
 use Rattle.om_model.proofs.Lawful.{lawful-sound}
-use Rattle.om_model.proofs.Served.{state_of-served}
 use Rattle.om_model.proofs.Sound.{IsSound}
 use Rattle.om_model.proofs.Steps.{state_of-drawn}
 use Rattle.om_pool.specs.CoreKept.{core_state, core_view, spare_of, view_of, IsLookRoom, IsCore}
@@ -36,9 +35,6 @@ FewZones zones = zones ≤ most_zones
 module _ (core : Core) (is : IsCore core) where
   pub core-sound : IsSound (rules_in core.state) (core_state core)
   core-sound = lawful-sound (rules_in core.state) core.journal.items is.lawful
-
-  pub core-served : AreServed (rules_in core.state) (core_state core)
-  core-served = state_of-served (rules_in core.state) core.journal.items
 
   pub core-tied : IsTied core.state.zones (tables_in core.state)
   core-tied = tied (rules_in core.state) (tables_in core.state) (core_state core) core-sound is.tables is.some_zone is.few_zones

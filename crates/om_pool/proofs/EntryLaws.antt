@@ -1,5 +1,5 @@
--- What an entry shows of the sight: that of a call that asks the broker for nothing, of one that lets a page go, and of one
--- that searches for a page.
+-- What an entry shows of the sight: that of a call that asks the broker for nothing, of one that lets pages go, and of one
+-- that searches for pages.
 use Rattle.std.proofs.Common.{◌≡◌, ℕ, ◌<◌, ◌≤◌, Bool, true, false, List, [], ◌∷◌, ◌++◌, map, Option, Some, None, IsSomeAnd, refl, sym, subst, ◌∙◌, ap, append-nil, arith}
 use Rattle.std.specs.List.{AllByRecursion}
 use Rattle.std.proofs.lemmas.Bool.{false≢true}
@@ -80,8 +80,8 @@ module _ {B A : Type 0} (g : broker.Ghosts B A) (rules : Rules) where
         },
       )
 
-  -- a search for a page
-  module _ (old new : B) (entry : CallEntry) (word : ℕ) (release : entry.release ≡ None) (taken : entry.taken ≡ None) (searched : search_word rules entry ≡ Some word) (one : pages_sought rules entry.op ≡ 1) where
+  -- a search for so many pages
+  module _ (old new : B) (entry : CallEntry) (n word : ℕ) (release : entry.release ≡ None) (taken : entry.taken ≡ None) (searched : search_word rules entry ≡ Some word) (sought : pages_sought rules entry.op ≡ n) where
     abbrev names : List Named
     names = map named_by_look entry.looks
 
@@ -89,18 +89,18 @@ module _ {B A : Type 0} (g : broker.Ghosts B A) (rules : Rules) where
     all-map f P Q [] step all = tt
     all-map f P Q (x ∷ xs) step all = (step x all.0, all-map f P Q xs step all.1)
 
-    module _ (sight items : List Seen) (shows : AllByRecursion (ShowsFull sight items 1 word) entry.looks) where
+    module _ (sight items : List Seen) (shows : AllByRecursion (ShowsFull sight items n word) entry.looks) where
       looks-full : HasFullLooks rules items (Call entry)
       looks-full =
-          let By : Option ℕ → ℕ → Type 0 = λ search n. AllByRecursion (λ look. IsSomeAnd search (λ w. IsFullIn items n w look)) entry.looks in
-          subst (λ search. By search (pages_sought rules entry.op)) (sym searched) (subst (By (Some word)) (sym one)
-          (all-weaker (ShowsFull sight items 1 word) (λ look. IsFullIn items 1 word look) entry.looks (look-full sight items 1 word) shows))
+          let By : Option ℕ → ℕ → Type 0 = λ search m. AllByRecursion (λ look. IsSomeAnd search (λ w. IsFullIn items m w look)) entry.looks in
+          subst (λ search. By search (pages_sought rules entry.op)) (sym searched) (subst (By (Some word)) (sym sought)
+          (all-weaker (ShowsFull sight items n word) (λ look. IsFullIn items n word look) entry.looks (look-full sight items n word) shows))
 
       looks-next : AllByRecursion (IsNext sight) names
-      looks-next = all-map named_by_look (ShowsFull sight items 1 word) (IsNext sight) entry.looks (look-next sight items 1 word) shows
+      looks-next = all-map named_by_look (ShowsFull sight items n word) (IsNext sight) entry.looks (look-next sight items n word) shows
 
       looks-seen : AllByRecursion (IsSeenName items) names
-      looks-seen = all-map named_by_look (ShowsFull sight items 1 word) (IsSeenName items) entry.looks (look-seen sight items 1 word) shows
+      looks-seen = all-map named_by_look (ShowsFull sight items n word) (IsSeenName items) entry.looks (look-seen sight items n word) shows
 
     pub names-claimed : (move : Move) → entry.claim ≡ Some move → named_in (Call entry) ≡ names ++ named_by_move move ∷ []
     names-claimed move claim = rw (claim, release, taken) refl
@@ -114,7 +114,7 @@ module _ {B A : Type 0} (g : broker.Ghosts B A) (rules : Rules) where
     pub moves-refused : entry.claim ≡ None → moves_of_call rules 0 entry ≡ []
     moves-refused claim = rw (claim, release) refl
 
-    pub adds-searched : (answer : Claim) → entry.claim ≡ claim_in (Some answer) → IsSearched g old new 1 word entry.looks answer → AddsEntry g rules entry old new
+    pub adds-searched : (answer : Claim) → entry.claim ≡ claim_in (Some answer) → IsSearched g old new n word entry.looks answer → AddsEntry g rules entry old new
     adds-searched (Claimed move frames) claim search moves sight made =
         let adds = search.made moves sight made in
         let items : List Seen = adds.0 in
@@ -147,7 +147,7 @@ module _ {B A : Type 0} (g : broker.Ghosts B A) (rules : Rules) where
           },
         )
 
-    pub adds-asked : (own : Bool) (answer : Option Claim) → entry.claim ≡ claim_in answer → IsAsked g own old new word entry.looks answer → AddsEntry g rules entry old new
+    pub adds-asked : (own : Bool) (answer : Option Claim) → entry.claim ≡ claim_in answer → IsAsked g own old new n word entry.looks answer → AddsEntry g rules entry old new
     adds-asked true answer claim asked =
         let P : B → Type 0 = λ b. AddsEntry g rules entry old b in
         subst P (sym asked.0) (adds-still old entry (claim ∙ ap claim_in asked.2) release taken asked.1)

@@ -1,5 +1,5 @@
 -- What a free shows of the core: what it finds, and what becomes of a live place that is put off.
-use Rattle.std.proofs.Common.{◌≡◌, ℕ, ◌+◌, ◌*◌, ◌<◌, ◌≤◌, Bool, true, false, not, ◌&&◌, ◌||◌, ◌==◌, nat_le, nat_lt, List, cond, if◌then◌else◌, Option, Some, None, IfSome, is_some, slice_set, refl, sym, ap, ◌∙◌, subst, arith}
+use Rattle.std.proofs.Common.{◌≡◌, ℕ, ◌+◌, ◌++◌, [], ◌∷◌, ◌*◌, ◌<◌, ◌≤◌, Bool, true, false, not, ◌&&◌, ◌||◌, ◌==◌, nat_le, nat_lt, List, if◌then◌else◌, Option, Some, None, IfSome, is_some, slice_set, refl, sym, ap, ◌∙◌, subst, arith}
 use Rattle.std.specs.List.{flat_map, AllByRecursion}
 use Rattle.std.specs.Option.{is_none}
 use Rattle.std.proofs.lemmas.Bool.{and_from, and_parts, eqb-true}
@@ -10,73 +10,67 @@ use Rattle.om_frame.specs.Memory as frames
 use Rattle.om_geom.specs.Addresses.{address_of, is_in_arena, page_at}
 use Rattle.om_geom.specs.FitLaws.{find-passes}
 use Rattle.om_geom.specs.Numbers.{first_address, most_zones, zone_pages}
-use Rattle.om_model.specs.Pool.Free.{Freed, is_surplus, kept_or_let_go, evicted, into_slot, put_off, slot_of, drawn_slot, delay, freed_again, slot_holds, free_at, done_with}
-use Rattle.om_model.specs.Pool.InUse.{Chunk, Use, use_of_place, uses_by_class, uses_of_block, uses, touches, page_kind, is_free_page}
-use Rattle.om_model.specs.Pool.Journal.{AreServed, GivesUp, is_served}
+use Rattle.om_model.specs.Pool.Free.{Freed, is_surplus, kept_or_let_go, evicted, into_slot, put_off, slot_of, drawn_slot, delay, freed_again, slot_holds, free_at, free, done_with}
+use Rattle.om_model.specs.Pool.InUse.{Chunk, Use, use_of_place, uses_by_class, uses_of_block, uses, page_kind, is_free_page}
+use Rattle.om_model.specs.Pool.Journal.{GivesUp}
 use Rattle.om_model.specs.Pool.Junk.{extent_of_place, freed_byte, with_freed_place}
 use Rattle.om_model.specs.Pool.Rules.{Rules, size_class}
 use Rattle.om_model.specs.Pool.Standing.{Standing, LivePlace, block_at, standing}
+use Rattle.om_model.specs.Pool.Runs.{Run}
 use Rattle.om_model.specs.Pool.State.{State, slot_count, drawn_more, is_held, filled_with, without_pages, without_run}
 use Rattle.om_model.specs.Pool.Steps.{Step}
 use Rattle.om_model.specs.Pool.WellFormed.{LiesOn}
 use Rattle.om_model.specs.declared.block.Block.{Block}
 use Rattle.om_model.specs.declared.block.Place.{Place}
+use Rattle.om_model.specs.declared.entry.Entry.TheVariants.{Call}
 use Rattle.om_model.specs.declared.entry.Move.{Move}
+use Rattle.om_model.specs.declared.operation.Op.TheVariants.{Free}
+use Rattle.om_model.specs.declared.operation.Who.{Who}
 use Rattle.om_model.specs.declared.reply.Reply.TheVariants as reply
 use Rattle.om_model.specs.declared.reply.Fault.TheVariants as fault
 use Rattle.om_model.proofs.Bytes.{freed-drawn, freed-sound}
-use Rattle.om_model.proofs.Each.{all-both, all-find, all-first}
+use Rattle.om_model.proofs.Each.{all-first}
 use Rattle.om_model.proofs.Free.{into_slot-sound, of-block}
-use Rattle.om_model.proofs.PageKinds.{all-have}
-use Rattle.om_model.proofs.Sound.{IsPlaced, IsSound, same_class, touches-first, well-formed}
+use Rattle.om_model.proofs.Sound.{IsSound, same_class, touches-first, well-formed}
 use Rattle.om_pages.specs.Kinds as kinds
 use Rattle.om_pages.specs.Tables.{AreAll, with_run}
 use Rattle.om_pages.specs.declared.kind.PageKind.{PageKind}
 use Rattle.om_pages.specs.declared.kind.PageKind.TheVariants as table
 use Rattle.om_pool.specs.Asking.{one_page, IsLeft}
 use Rattle.om_pool.specs.Chunks.{HoldsPlace}
-use Rattle.om_pool.specs.CoreKept.{core_state, IsCore}
-use Rattle.om_pool.specs.Free.{evicted_tables, is_let_go, Evicts, GivesTo, FreeIs, IsThere}
+use Rattle.om_pool.specs.CoreKept.{core_state, view_of, IsBackedCore, IsCore}
+use Rattle.om_pool.specs.Free.{evicted_tables, is_let_go, Evicts, Frees, GivesTo, FreeIs, IsThere}
 use Rattle.om_pool.specs.HoldingsView.{rules_in, tables_in, with_drawn, IsSameBut}
-use Rattle.om_pool.specs.PoolView.{says_no_run}
+use Rattle.om_pool.specs.PoolView.{says_no_run, UsesBroker}
+use Rattle.om_pool.specs.Standing.{Means}
 use Rattle.om_pool.specs.ByTables.{standing_by}
-use Rattle.om_pool.specs.TableSteps.{delayed_place, filled_by, freed_filled, freed_place, gone_page, is_surplus_by, page_goes}
+use Rattle.om_pool.specs.TableSteps.{delayed_place, filled_by, freed_filled, freed_place, gone_run, is_surplus_by, kept_or_gone, page_goes}
 use Rattle.om_pool.specs.Tables.{Tables, StandFor}
+use Rattle.om_pool.specs.Unasked.{no_answers, unasked_entry}
 use Rattle.om_pool.specs.declared.holdings.Holdings.{Holdings}
 use Rattle.om_pool.specs.declared.pool_core.Core.{Core}
+use Rattle.om_pool.specs.declared.standing.Standing as code
 use Rattle.om_words.specs.DrawnWords.{WordSource}
-use Rattle.om_pool.proofs.CoreLaws.{core-served, core-sound, same-rules}
+use Rattle.om_pool.proofs.CallLaws.{backed-let_go}
+use Rattle.om_pool.proofs.CoreLaws.{core-sound, kept, left_after, same-rules, taken}
 use Rattle.om_pool.proofs.Slots.{waiting}
-use Rattle.om_pool.proofs.TableAnswers.{HasPlace, live-place, standing-by}
+use Rattle.om_pool.proofs.Spending.{uses-left}
+use Rattle.om_pool.proofs.TableAnswers.{HasPlace, live-place, means-by}
 use Rattle.om_pool.proofs.TablePages.{all-held, bytes-filled, free-counted, pages-go}
-use Rattle.om_pool.proofs.TableSlots.{gone-held, gone-low, gone-place, put-off-gone, put-off-left, put-off-new}
+use Rattle.om_pool.proofs.TableSlots.{IsKindOn, all-kind_on, gone-held, gone-low, gone-place, no-pages, put-off-gone, put-off-left, put-off-new}
 use Rattle.om_pool.proofs.TableTies.{shelf-holds}
+use Rattle.om_pool.proofs.UnaskedLaws.{IsUnasked, unasked-does}
 
 -- ---- what a free finds
 
-module _ (core : Core) (is : IsCore core) (address : ℕ) (answer : Standing) (answered : answer ≡ standing_by core.state.zones (tables_in core.state) address) where
-  pub stands-at : standing (rules_in core.state) (core_state core) address ≡ answer
-  stands-at = sym (answered ∙ standing-by (rules_in core.state) (tables_in core.state) (core_state core) (core-sound core is) is.tables address (core-served core is))
+module _ (core : Core) (address : ℕ) where
+  pub means-at : IsCore core → (answer : code.Standing) → answer ≡ standing_by core.state.zones (tables_in core.state) address → Means answer (standing (rules_in core.state) (core_state core) address)
+  means-at is answer answered =
+      let M : code.Standing → Type 0 = λ a. Means a (standing (rules_in core.state) (core_state core) address) in
+      subst M (sym answered) (means-by (rules_in core.state) (tables_in core.state) (core_state core) (core-sound core is) is.tables address)
 
-  pub frees-at : FreeIs core address (free_at (rules_in core.state) (core_state core) address answer)
-  frees-at = ap (free_at (rules_in core.state) (core_state core) address) stands-at
-
--- ---- a run that became free
-
-evicted-cond : (free surplus : Bool) (gone stays : Freed) → (free && surplus) ≡ false → cond free (cond surplus gone stays) stays ≡ stays
-evicted-cond true true gone stays e = cc
-evicted-cond true false gone stays e = refl
-evicted-cond false surplus gone stays e = refl
-
-module _ (rules : Rules) (state : State) (place : Place) where
-  evicted-kept : (is_free_page (uses rules state) (page_at place.address) && is_surplus rules state) ≡ false → evicted rules state (Some place) ≡ record { release = None; next = state }
-  unfolding kept_or_let_go
-  evicted-kept few = evicted-cond (is_free_page (uses rules state) (page_at place.address)) (is_surplus rules state) _ (record { release = None; next = state }) few
-
-  evicted-gone : is_free_page (uses rules state) (page_at place.address) ≡ true → is_surplus rules state ≡ true
-      → evicted rules state (Some place) ≡ record { release = Some (one_page (page_at place.address)); next = without_pages (one_page (page_at place.address)) state }
-  unfolding kept_or_let_go
-  evicted-gone free many = rw (free, many) refl
+  pub frees-at : (there : Standing) → standing (rules_in core.state) (core_state core) address ≡ there → FreeIs core address (free_at (rules_in core.state) (core_state core) address there)
+  frees-at there stands = ap (free_at (rules_in core.state) (core_state core) address) stands
 
 -- ---- a fill
 
@@ -131,16 +125,7 @@ module _ (rules : Rules) (place : Place) where
       by true = refl
       by false = refl
 
--- ---- what a place leaves behind that left its slot
-
--- the tables after it is free, and what the broker was given
-abbrev pub left_tables : Rules → Tables → Option Place → Tables
-left_tables rules tables None = tables
-left_tables rules tables (Some gone) = evicted_tables rules tables gone.address
-
-abbrev pub GivesOf : {B A : Type 0} → broker.Ghosts B A → Rules → Tables → B → B → Option Place → Option Move → Type 0
-GivesOf g rules tables before after None release = (after ≡ before) × (release ≡ None)
-GivesOf g rules tables before after (Some gone) release = GivesTo g before after (page_at gone.address) (is_let_go rules tables gone.address) release
+-- ---- a run that became free, and what a place leaves behind that left its slot
 
 -- what a call shows of the pages that it held, by what it left
 pub record Leaves {B A : Type 0} (g : broker.Ghosts B A) (rules : Rules) (held : List ℕ) (drawn : ℕ) (tables : Tables) (before after : B) (left : Freed) (release : Option Move) : Type 0 where
@@ -149,6 +134,15 @@ pub record Leaves {B A : Type 0} (g : broker.Ghosts B A) (rules : Rules) (held :
   pub broker : IsLeft g before after held (left.next).held release
   pub drawn_is : (left.next).drawn ≡ drawn
 
+-- the tables after it is free, and what the broker was given
+abbrev pub left_tables : Rules → Tables → Option Place → Tables
+left_tables rules tables None = tables
+left_tables rules tables (Some gone) = evicted_tables rules tables gone.address
+
+abbrev pub GivesOf : {B A : Type 0} → broker.Ghosts B A → Rules → Tables → B → B → Option Place → Option Move → Type 0
+GivesOf g rules tables before after None release = (after ≡ before) × (release ≡ None)
+GivesOf g rules tables before after (Some gone) release = GivesTo g before after (one_page (page_at gone.address)) (is_let_go rules tables gone.address) release
+
 module _ {B A : Type 0} (g : broker.Ghosts B A) (rules : Rules) (held : List ℕ) (drawn : ℕ) (tables : Tables) (state : State) (stands : StandFor rules tables state) (held_is : state.held ≡ held) (drawn_is : state.drawn ≡ drawn)
     (before after : B) where
   leaves-none : (release : Option Move) → after ≡ before → release ≡ None → Leaves g rules held drawn tables before after (record { release = None; next = state }) release
@@ -156,25 +150,30 @@ module _ {B A : Type 0} (g : broker.Ghosts B A) (rules : Rules) (held : List ℕ
       let P : Option Move → Type 0 = λ r. Leaves g rules held drawn tables before after (record { release = None; next = state }) r in
       subst P (sym none) (record { stands = stands; gives_up = record { run_is = refl; inside = tt }; broker = (same, held_is); drawn_is = drawn_is })
 
-  leaves-some : (place : Place) → is_held held (page_at place.address) ≡ true → (goes surplus : Bool) → is_free_page (uses rules state) (page_at place.address) ≡ goes → is_surplus rules state ≡ surplus
-      → (release : Option Move) → GivesTo g before after (page_at place.address) (goes && surplus) release
-      → Leaves g rules held drawn (if goes && surplus then gone_page tables (page_at place.address) else tables) before after (evicted rules state (Some place)) release
-  leaves-some place here true true free many None gives = absurd gives
-  leaves-some place here true true free many (Some move) gives =
-      let page = page_at place.address in
-      let P : Freed → Type 0 = λ left. Leaves g rules held drawn (gone_page tables page) before after left (Some move) in
-      subst P (sym (evicted-gone rules state place free many)) (record {
-        stands = pages-go rules tables state stands (one_page page);
-        gives_up = record { run_is = ap Some gives.run_is; inside = gives.inside };
-        broker = (page, record { given = gives; held = here; left = ap (without_run (one_page page)) held_is });
-        drawn_is = drawn_is;
-      })
-  leaves-some place here true false free few release gives =
-      let P : Freed → Type 0 = λ left. Leaves g rules held drawn tables before after left release in
-      subst P (sym (evicted-kept rules state place (ap (λ b. b && is_surplus rules state) free ∙ few))) (leaves-none release gives.0 gives.1)
-  leaves-some place here false surplus in_use any release gives =
-      let P : Freed → Type 0 = λ left. Leaves g rules held drawn tables before after left release in
-      subst P (sym (evicted-kept rules state place (ap (λ b. b && is_surplus rules state) in_use))) (leaves-none release gives.0 gives.1)
+  leaves-by : (run : Run) (surplus : Bool) (release : Option Move) → GivesTo g before after run surplus release
+      → Leaves g rules held drawn (if surplus then gone_run tables run else tables) before after (if surplus then record { release = Some run; next = without_pages run state } else record { release = None; next = state }) release
+  leaves-by run true None gives = absurd gives
+  leaves-by run true (Some move) gives = record {
+    stands = pages-go rules tables state stands run;
+    gives_up = record { run_is = ap Some gives.run_is; inside = gives.inside };
+    broker = (run, record { given = gives; left = ap (without_run run) held_is });
+    drawn_is = drawn_is;
+  }
+  leaves-by run false release gives = leaves-none release gives.0 gives.1
+
+  -- a run that became free is kept, or let go where it is surplus
+  pub leaves-run : (run : Run) → is_surplus rules state ≡ is_surplus_by rules tables → (release : Option Move) → GivesTo g before after run (is_surplus_by rules tables) release
+      → Leaves g rules held drawn (kept_or_gone rules tables run) before after (kept_or_let_go rules state run) release
+  unfolding kept_or_let_go
+  leaves-run run same release gives =
+      let P : Bool → Type 0 = λ b. Leaves g rules held drawn (kept_or_gone rules tables run) before after (if b then record { release = Some run; next = without_pages run state } else record { release = None; next = state }) release in
+      subst P (sym same) (leaves-by run (is_surplus_by rules tables) release gives)
+
+  leaves-some : (place : Place) (goes : Bool) → is_free_page (uses rules state) (page_at place.address) ≡ goes → is_surplus rules state ≡ is_surplus_by rules tables
+      → (release : Option Move) → GivesTo g before after (one_page (page_at place.address)) (goes && is_surplus_by rules tables) release
+      → Leaves g rules held drawn (if goes then kept_or_gone rules tables (one_page (page_at place.address)) else tables) before after (evicted rules state (Some place)) release
+  leaves-some place true free same release gives = rw free (leaves-run (one_page (page_at place.address)) same release gives)
+  leaves-some place false in_use same release gives = rw in_use (leaves-none release gives.0 gives.1)
 
 -- the holdings after a live place entered a slot, and its bytes were filled
 module _ (old drawn delayed filled : Holdings) (slot : ℕ) (place : Place) (draws : drawn ≡ with_drawn 1 old) (waits : tables_in delayed ≡ delayed_place (tables_in drawn) slot place) (same : IsSameBut drawn delayed)
@@ -209,7 +208,7 @@ has-evicted g old new before after (Some gone) release is = record { tables = is
 -- ---- a live place is put off
 
 -- the class of a live block's size is that of its page
-module _ (rules : Rules) (state : State) (is : IsSound rules state) (served : AreServed rules state) (address : ℕ) (block : Block) (live : block_at state address ≡ Some block) (class : ℕ)
+module _ (rules : Rules) (state : State) (is : IsSound rules state) (address : ℕ) (block : Block) (live : block_at state address ≡ Some block) (class : ℕ)
     (kind : page_kind (uses rules state) (page_at address) ≡ Some (Chunk class)) where
   block-begins : block.address ≡ address
   block-begins = eqb-true block.address address (find-passes (λ (b : Block). b.address == address) state.live block live)
@@ -218,19 +217,15 @@ module _ (rules : Rules) (state : State) (is : IsSound rules state) (served : Ar
   of-live P all = of-block rules state is address block live P (all-first P (flat_map (uses_of_block rules) state.live) (waiting state.slots) all)
 
   live-class : size_class rules block.size ≡ Some class
-  live-class = by (size_class rules block.size) refl (all-find (λ (b : Block). is_served rules b.size ≡ true) (λ b. b.address == address) state.live block served live)
+  live-class =
+      let at : ℕ = page_at block.address in
+      by (size_class rules block.size) (ap (λ a. page_kind (uses rules state) (page_at a)) block-begins ∙ kind) (of-live (IsKindOn rules state at) (all-kind_on rules state is at))
     where
-      by : (own : Option ℕ) → size_class rules block.size ≡ own → is_some own ≡ true → own ≡ Some class
-      by None own some = cc
-      by (Some own) own_is some =
-          let sound = is.sound in
+      by : (own : Option ℕ) → page_kind (uses rules state) (page_at block.address) ≡ Some (Chunk class) → AllByRecursion (IsKindOn rules state (page_at block.address)) (uses_by_class rules block own) → own ≡ Some class
+      by None here all = absurd (no-pages rules state block class here all)
+      by (Some own) here all =
           let one = use_of_place (record { address = block.address; class = own }) in
-          let OfKind : Use → Type 0 = λ u. touches (page_at address) u ≡ true → Some u.kind ≡ page_kind (uses rules state) (page_at address) in
-          let P : Use → Type 0 = λ u. IsPlaced rules state.held u × OfKind u in
-          let all = all-both (IsPlaced rules state.held) OfKind P (uses rules state) (λ u placed like. (placed, like)) sound.placed (all-have rules state.held (uses rules state) sound (page_at address)) in
-          let here = (subst (AllByRecursion P) (ap (uses_by_class rules block) own_is) (of-live P all)).0 in
-          let T : ℕ → Type 0 = λ p. touches p one ≡ true in
-          let same : Some (Chunk own) ≡ Some (Chunk class) = here.1 (subst T (ap page_at block-begins) (touches-first one (here.0).shape)) ∙ kind in
+          let same : Some (Chunk own) ≡ Some (Chunk class) = (all.0).1 (touches-first one ((all.0).0).shape) ∙ here in
           let inner : Chunk own ≡ Chunk class = cc in
           ap Some (same_class own class inner)
 
@@ -249,7 +244,7 @@ pub if-some : {X : Type 0} (P : X → Type 0) (o : Option X) → ((x : X) → o 
 if-some P None each = tt
 if-some P (Some x) each = each x refl
 
-module _ (rules : Rules) (tables : Tables) (state : State) (is : IsSound rules state) (stands : StandFor rules tables state) (served : AreServed rules state) (address : ℕ) (place : Place) (block : Block)
+module _ (rules : Rules) (tables : Tables) (state : State) (is : IsSound rules state) (stands : StandFor rules tables state) (address : ℕ) (place : Place) (block : Block)
     (here : standing rules state address ≡ LivePlace place block) where
   pub lives : HasPlace rules tables state address place block
   lives = live-place rules tables state is stands address place block here
@@ -261,12 +256,12 @@ module _ (rules : Rules) (tables : Tables) (state : State) (is : IsSound rules s
   on_page = let own = lives in ap (λ a. page_kind (uses rules state) (page_at a)) own.place_is ∙ own.on_page
 
   class_is : size_class rules block.size ≡ Some place.class
-  class_is = live-class rules state is served place.address block live place.class on_page
+  class_is = live-class rules state is place.address block live place.class on_page
 
   pub place-bytes : HoldsPlace tables.memory place
   place-bytes =
       let Holds : List (List ℕ) → Type 0 = λ m. HoldsPlace m place in
-      subst Holds (sym stands.memory) (live-bytes rules state is served place.address block live place.class on_page)
+      subst Holds (sym stands.memory) (live-bytes rules state is place.address block live place.class on_page)
 
   module _ (slot : ℕ) (low : slot < slot_count) where
     abbrev next : State
@@ -298,7 +293,7 @@ module _ (rules : Rules) (tables : Tables) (state : State) (is : IsSound rules s
       freed = freed_place filled gone.address
 
       goes-by : page_goes waits gone.address ≡ is_free_page (uses rules next) page
-      goes-by = put-off-left rules tables state place block slot live class_is low served is next-sound stands gone full
+      goes-by = put-off-left rules tables state place block slot live class_is low is next-sound stands gone full
 
       freed-stand : StandFor rules freed put
       freed-stand =
@@ -308,7 +303,7 @@ module _ (rules : Rules) (tables : Tables) (state : State) (is : IsSound rules s
           ap (λ b. record tables { pages = if b then with_run tables.pages page 1 table.Free else tables.pages; chunks = with_freed (with_place tables.chunks place.address has.Delayed) gone.address; slots = slice_set tables.slots slot (Some place) }) goes-by in
           subst (Stands put) (sym (freed-after rules place waits gone.address))
           (freed-stands rules place (freed_place waits gone.address) next
-          (subst (Stands next) (sym same) (put-off-gone rules tables state place block slot live class_is low served is next-sound stands gone full)))
+          (subst (Stands next) (sym same) (put-off-gone rules tables state place block slot live class_is low is next-sound stands gone full)))
 
       goes : is_free_page (uses rules put) page ≡ page_goes filled gone.address
       goes =
@@ -319,19 +314,19 @@ module _ (rules : Rules) (tables : Tables) (state : State) (is : IsSound rules s
       surplus = ap (λ n. not (nat_le n rules.options.cache)) (sym (free-counted rules freed put put-sound freed-stand))
 
       held-there : is_held state.held page ≡ true
-      held-there = gone-held rules tables state place block slot live class_is low served is next-sound stands gone full
+      held-there = gone-held rules tables state place block slot live class_is low is next-sound stands gone full
 
       -- the place that the slot had is there still
       pub gone-there : (own : Holdings) → tables_in own ≡ filled → rules.zones ≤ most_zones → IsThere own gone
       gone-there own own_is few =
-          let there = gone-low rules tables state place block slot live class_is low served is next-sound stands gone full in
+          let there = gone-low rules tables state place block slot live class_is low is next-sound stands gone full in
           let bytes = freed-stand in
           let sound = put-sound in
           let All : List PageKind → Type 0 = λ t. AreAll kinds.is_held t page 1 in
           record {
             chunk = ap (λ (t : Tables). is_some (place_in t.chunks gone.address)) own_is
                 ∙ ap (λ chunks. is_some (place_in chunks gone.address)) (freed-chunks rules place waits)
-                ∙ gone-place rules tables state place block slot live class_is low served is next-sound stands gone full;
+                ∙ gone-place rules tables state place block slot live class_is low is next-sound stands gone full;
             held = subst All (sym (ap (λ (t : Tables). t.pages) own_is ∙ freed-pages rules place waits))
                 (all-held rules tables state stands page 1 (omega arith) (λ p from to. let same : p ≡ page = omega arith in ap (is_held state.held) same ∙ held-there));
             bytes = ap (λ (t : Tables). frames.is_held t.memory page) own_is
@@ -348,11 +343,11 @@ module _ (rules : Rules) (tables : Tables) (state : State) (is : IsSound rules s
         → Leaves g rules state.held state.drawn (left_tables rules (freed_filled rules place (delayed_place tables slot place)) gone) before after (evicted rules (put_off rules state slot place) gone) release
     put-off-leaves g None empty before after release gives =
         leaves-none g rules state.held state.drawn filled put
-        (freed-stands rules place waits next (put-off-new rules tables state place block slot live class_is low served is next-sound stands empty))
+        (freed-stands rules place waits next (put-off-new rules tables state place block slot live class_is low is next-sound stands empty))
         put-held (freed-drawn rules place next) before after release gives.0 gives.1
     put-off-leaves g (Some gone) full before after release gives =
-        leaves-some g rules state.held state.drawn (freed gone full) put (freed-stand gone full) put-held (freed-drawn rules place next) before after gone (held-there gone full)
-        (page_goes filled gone.address) (is_surplus_by rules (freed gone full)) (goes gone full) (surplus gone full) release gives
+        leaves-some g rules state.held state.drawn (freed gone full) put (freed-stand gone full) put-held (freed-drawn rules place next) before after gone
+        (page_goes filled gone.address) (goes gone full) (surplus gone full) release gives
 
 -- ---- the steps
 
@@ -372,3 +367,29 @@ unfolding delay
 delay-is rules state place slot before at was =
     ap (λ s. done_with 1 (evicted rules (put_off rules (drawn_more 1 state) s place) (slot_of state s))) (sym at)
     ∙ ap (λ o. done_with 1 (evicted rules (put_off rules (drawn_more 1 state) slot place) o)) (sym was)
+
+-- ---- a free that is done
+
+-- what becomes of the core and of its broker
+pub record IsDone {B A : Type 0} (g : broker.Ghosts B A) (old new : Core) (before after : B) (who : Who) (address : ℕ) : Type 0 where
+  pub kept : IsCore new
+  pub backed : IsBackedCore g new after
+  pub uses : UsesBroker g (view_of old before) (view_of new after) reply.Done
+  pub taken : Frees old new who address reply.Done
+
+pub free-done : {B A : Type 0} (g : broker.Ghosts B A) (old new : Core) (before after : B) (who : Who) (address count : ℕ) (words : List ℕ) (left : Freed) (release : Option Move)
+    → IsCore old → IsBackedCore g old before → IsUnasked old new (Free address) (free (rules_in old.state) (core_state old) address) (done_with count left) words release
+    → IsLeft g before after (core_state old).held (left.next).held release → new.journal.items ≡ old.journal.items ++ Call (unasked_entry who (Free address) reply.Done words release) ∷ []
+    → IsDone g old new before after who address
+free-done g old new before after who address count words left release is backed unasked gone added =
+    let whole = free (rules_in old.state) (core_state old) address in
+    let does = unasked-does old new who (Free address) reply.Done whole (done_with count left) words release is unasked refl added in
+    let held : (core_state new).held ≡ (left.next).held = ap (λ (s : State). s.held) (left_after old new who (Free address) reply.Done words no_answers (λ given. whole) release is does) ∙ ap (λ (s : Step). (s.next).held) unasked.step_is in
+    let Left : List ℕ → Type 0 = λ pages. IsLeft g before after (core_state old).held pages release in
+    let left_is = subst Left (sym held) gone in
+    record {
+      kept = kept old new who (Free address) reply.Done words no_answers (λ given. whole) release is does;
+      backed = backed-let_go g old new before after who (Free address) reply.Done words release does.rules left_is added backed;
+      uses = uses-left g old new before after who (Free address) reply.Done words release added (core-sound old is).ascends left_is refl;
+      taken = taken old new who (Free address) reply.Done words no_answers (λ given. whole) release is does;
+    }

@@ -4,6 +4,7 @@ pub mod Begun
 pub mod CallLaws
 pub mod CoreLaws
 pub mod EntryLaws
+pub mod FreeBlock
 pub mod FreeLaws
 pub mod MallocLaws
 pub mod Pages
@@ -11,6 +12,7 @@ pub mod PlaceOwn
 pub mod Slots
 pub mod Spending
 pub mod TableAnswers
+pub mod TableBlocks
 pub mod TablePages
 pub mod TablePicks
 pub mod TableRuns
@@ -18,3 +20,7 @@ pub mod TableSlots
 pub mod TableSteps
 pub mod TableTies
 pub mod UnaskedLaws
+pub mod WholeBlocks
+pub mod Fills
+pub mod ChunkPlacing
+pub mod BlockPlacing

@@ -1,24 +1,13 @@
--- Lists of held pages where one comes in or goes.
-use Rattle.std.proofs.Common.{◌≡◌, ℕ, ◌+◌, ◌<◌, Bool, true, false, not, ◌==◌, nat_eq, nat_le, nat_lt, List, [], ◌∷◌, ◌++◌, length, cond, refl, sym, ap, ◌∙◌, arith}
+-- Lists of held pages where one comes in.
+use Rattle.std.proofs.Common.{◌≡◌, ℕ, ◌+◌, ◌<◌, Bool, true, false, nat_eq, nat_le, nat_lt, List, [], ◌∷◌, ◌++◌, length, refl, sym, ap, ◌∙◌, arith}
 use Rattle.std.specs.List.{filter, insert, AllByRecursion}
 use Rattle.std.proofs.lemmas.Bool.{cases_lt, eqb-false}
 use Rattle.std.proofs.lemmas.Bool.Decides.{nat_tests}
 use mathlib.Core.Logic.{⊎_elim}
-use Rattle.om_geom.specs.Fit.{is_in_run}
-use Rattle.om_model.specs.Pool.State.{is_held, with_run, without_run}
+use Rattle.om_model.specs.Pool.State.{is_held, with_run}
 use Rattle.om_model.specs.Pool.WellFormed.{EachPair}
 use Rattle.om_model.proofs.Each.{or_none}
 use Rattle.om_pool.specs.Asking.{one_page}
-
-single : (page other : ℕ) → is_in_run page 1 other ≡ (other == page)
-single page other = grind (arith, nat_tests)
-
-filter-same : (p q : ℕ → Bool) (pages : List ℕ) → ((page : ℕ) → p page ≡ q page) → filter p pages ≡ filter q pages
-filter-same p q [] same = refl
-filter-same p q (x ∷ xs) same = ap (λ b. cond b (x ∷ filter p xs) (filter p xs)) (same x) ∙ ap (λ ys. cond (q x) (x ∷ ys) ys) (filter-same p q xs same)
-
-pub filter-other : (page : ℕ) (held : List ℕ) → without_run (one_page page) held ≡ filter (λ other. not (other == page)) held
-filter-other page held = filter-same (λ other. not (is_in_run page 1 other)) (λ other. not (other == page)) held (λ other. ap not (single page other))
 
 -- ---- a new page goes behind those below it
 

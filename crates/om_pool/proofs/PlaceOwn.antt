@@ -1,5 +1,5 @@
 -- The place that the pool itself has, and what becomes of the tables by the block that goes there or on a claimed page.
-use Rattle.std.proofs.Common.{◌≡◌, ℕ, ◌+◌, ◌*◌, ◌<◌, true, false, Option, Some, None, IfSome, IsTrue, is_some, refl, sym, ap, ◌∙◌, subst}
+use Rattle.std.proofs.Common.{◌≡◌, ℕ, ◌+◌, ◌*◌, ◌<◌, true, Option, Some, None, IfSome, IsTrue, is_some, refl, sym, ap, ◌∙◌, subst}
 use Rattle.om_broker.specs.declared.broker.Claim.{Claim}
 use Rattle.om_broker.specs.declared.broker.Claim.TheVariants.{Claimed, NoRun}
 use Rattle.om_chunk.specs.Picks.{picked, place_on}
@@ -11,7 +11,6 @@ use Rattle.om_model.specs.Pool.InUse.{uses}
 use Rattle.om_model.specs.Pool.Malloc.{malloc}
 use Rattle.om_model.specs.Pool.Picks.{own_page}
 use Rattle.om_model.specs.Pool.Rules.{Rules, size_class, word_at}
-use Rattle.om_model.specs.Pool.Runs.{run_of}
 use Rattle.om_model.specs.Pool.State.{State, is_held}
 use Rattle.om_model.specs.declared.entry.Move.{Move}
 use Rattle.om_model.proofs.Places.{serves-own}
@@ -21,14 +20,10 @@ use Rattle.om_pool.specs.Asking.{claim_in}
 use Rattle.om_pool.specs.Malloc.{PlacesBlock}
 use Rattle.om_pool.specs.TableSteps.{fresh_page, FreshPlace, OwnBy, OwnPlace}
 use Rattle.om_pool.specs.Tables.{Tables, StandFor}
-use Rattle.om_pool.proofs.MallocLaws.{own-nothing, places-claimed, places-fresh, places-nowhere, places-open, Places}
+use Rattle.om_pool.proofs.ChunkPlacing.{own-nothing, places-claimed, places-fresh, places-nowhere, places-open, Places}
+use Rattle.om_pool.proofs.MallocLaws.{IsNewClaim}
 use Rattle.om_pool.proofs.TablePages.{lowest-page}
 use Rattle.om_pool.proofs.TablePicks.{own-none, own-some}
-
--- a claim is of one page of the arena that isn't held
-abbrev pub IsNewClaim : Rules → State → Option Claim → Type 0
-IsNewClaim rules state (Some (Claimed move frames)) = (move.count ≡ 1) × ((run_of move).first < zone_pages * rules.zones) × (is_held state.held (run_of move).first ≡ false)
-IsNewClaim rules state other = Unit {0}
 
 module _ (rules : Rules) (size class : ℕ) (class_is : size_class rules size ≡ Some class) (site : ℕ) (tables : Tables) (state : State) (is : IsSound rules state) (stands : StandFor rules tables state) (first second : ℕ)
     (first_is : first ≡ word_at rules state.drawn) (second_is : second ≡ word_at rules (state.drawn + 1)) where
@@ -44,7 +39,7 @@ module _ (rules : Rules) (size class : ℕ) (class_is : size_class rules size �
     pub fits : IfSome result (λ found. ((found.page).0 < zone_pages * rules.zones) × (is_held state.held ((found.page).0) ≡ true))
     pub same : result ≡ None → new ≡ tables
     pub memory : new.memory ≡ tables.memory
-    pub places : (after : Tables) (answer : Option Claim) (at : Option ℕ) → IsNewClaim rules state answer → IsSound rules ((malloc rules state size site (claim_in answer)).next)
+    pub places : (after : Tables) (answer : Option Claim) (at : Option ℕ) → IsNewClaim rules state 1 answer → IsSound rules ((malloc rules state size site (claim_in answer)).next)
         → PlacesBlock rules new after class second size site at result answer → PlacedAs after (claim_in answer) at
 
   is_one : IsTrue (is_class class)
@@ -95,12 +90,12 @@ module _ (rules : Rules) (size class : ℕ) (class_is : size_class rules size �
           let P : Tables → Option ℕ → Type 0 = λ t o. PlacedAs t None o in
           subst (λ t. P t at) (sym on.0) (subst (P tables) (sym on.1) (places-nowhere rules size class class_is site tables state is stands first second first_is second_is nothing))
 
-      by : own ≡ None → (after : Tables) (answer : Option Claim) (at : Option ℕ) → IsNewClaim rules state answer → IsSound rules ((malloc rules state size site (claim_in answer)).next)
+      by : own ≡ None → (after : Tables) (answer : Option Claim) (at : Option ℕ) → IsNewClaim rules state 1 answer → IsSound rules ((malloc rules state size site (claim_in answer)).next)
           → PlacesBlock rules tables after class second size site at None answer → PlacedAs after (claim_in answer) at
       by nothing after None at claim sound on = nowhere nothing after at on
       by nothing after (Some NoRun) at claim sound on = nowhere nothing after at on
       by nothing after (Some (Claimed move frames)) at claim sound on =
-          places-claimed rules size class class_is site tables state is stands first second first_is second_is move after at nothing sound claim.0 claim.1 claim.2 on
+          places-claimed rules size class class_is site tables state is stands first second first_is second_is move after at nothing sound claim on
 
   pub owned : (new : Tables) (result : Option Picked) → OwnPlace tables new class first second result → Owns new result
   owned new result own_place = by (picked tables.chunks class first second) refl own_place

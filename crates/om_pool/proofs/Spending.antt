@@ -1,8 +1,7 @@
 -- What a call takes of the broker's moves, and that no run is said to be wanting where none was asked for.
-use Rattle.std.proofs.Common.{◌≡◌, ℕ, suc, ◌+◌, ◌-◌, ◌^◌, ◌<◌, ◌≤◌, Bool, true, false, not, ◌==◌, List, [], ◌∷◌, ◌++◌, length, if◌then◌else◌, Option, Some, None, ◌⊎◌, inl, inr, refl, sym, subst, ◌∙◌, ap, arith}
-use Rattle.std.specs.List.{filter, AllByRecursion}
-use Rattle.std.proofs.lemmas.Bool.{false≢true, cases_lt, cases_Bool, eqb-true}
-use Rattle.std.proofs.lemmas.Bool.Decides.{nat_tests}
+use Rattle.std.proofs.Common.{◌≡◌, ℕ, ◌+◌, ◌-◌, ◌^◌, ◌<◌, ◌≤◌, Bool, true, false, nat_eq, nat_le, nat_lt, cond, List, [], ◌∷◌, ◌++◌, length, length-append, if◌then◌else◌, Option, Some, None, ◌⊎◌, inl, inr, refl, sym, subst, ◌∙◌, ap, arith}
+use Rattle.std.specs.List.{filter, range_with_len, AllByRecursion}
+use Rattle.std.proofs.lemmas.Bool.{false≢true, true≢false, and_parts, cases_lt, cases_Bool, eq-eqb, le-leb, leb-true, lt-ltb, ltb-true}
 use mathlib.Core.Logic.{⊎_elim}
 use Rattle.om_broker.specs.Claims.{one_more_ask, Spends}
 use Rattle.om_broker.specs.declared.broker.Broker as broker
@@ -11,8 +10,10 @@ use Rattle.om_broker.specs.declared.broker.Claim.TheVariants.{Claimed, NoRun}
 use Rattle.om_model.specs.Data.CallEntry.{CallEntry}
 use Rattle.om_model.specs.Pool.Access.{PageState, Plain, Shut, Guarding, bar_of, page_state, load, load_unless, store, store_unless}
 use Rattle.om_geom.specs.Addresses.{page_at}
+use Rattle.om_geom.specs.Numbers.{zone_pages}
 use Rattle.om_model.specs.Pool.Rules.{Rules}
-use Rattle.om_model.specs.Pool.State.{State, holds, without_run}
+use Rattle.om_model.specs.Pool.Runs.{Run, is_page_of}
+use Rattle.om_model.specs.Pool.State.{State, holds, is_held, with_run, without_run}
 use Rattle.om_model.specs.Pool.WellFormed.{EachPair}
 use Rattle.om_model.specs.declared.entry.Entry.TheVariants.{Call}
 use Rattle.om_model.specs.declared.entry.Move.{Move}
@@ -21,8 +22,8 @@ use Rattle.om_model.specs.declared.operation.Op.{Op}
 use Rattle.om_model.specs.declared.operation.Who.{Who}
 use Rattle.om_model.specs.declared.reply.Reply.{Reply}
 use Rattle.om_model.specs.declared.reply.Reply.TheVariants.{Miss}
-use Rattle.om_model.proofs.Each.{all-weaker}
-use Rattle.om_pool.specs.Asking.{one_page, IsAsked, IsLeft}
+use Rattle.om_model.proofs.Each.{all-weaker, or_none}
+use Rattle.om_pool.specs.Asking.{IsAsked, IsLeft}
 use Rattle.om_pool.specs.Backing.{AddsEntry}
 use Rattle.om_pool.specs.CoreKept.{core_state, view_of}
 use Rattle.om_pool.specs.HoldingsView.{rules_in}
@@ -30,7 +31,6 @@ use Rattle.om_pool.specs.PoolView.{says_no_run, UsesBroker}
 use Rattle.om_pool.specs.Unasked.{unasked_entry, IsQuiet}
 use Rattle.om_pool.specs.declared.pool_core.Core.{Core}
 use Rattle.om_pool.proofs.EntryLaws.{adds-released, adds-still}
-use Rattle.om_pool.proofs.Pages.{filter-other}
 
 -- ---- how many pages are held
 
@@ -48,26 +48,54 @@ all-from_0 (x ∷ xs) = (omega arith, all-from_0 xs)
 pub few-pages : (bound : ℕ) (held : List ℕ) → EachPair ◌<◌ held → AllByRecursion (λ page. page < bound) held → length held ≤ bound
 few-pages bound held pairs below = let all = pages-between 0 bound held (omega arith) (all-from_0 held) pairs below in omega arith
 
-module _ (page : ℕ) where
-  abbrev others : List ℕ → List ℕ
-  others held = filter (λ other. not (other == page)) held
+-- of pages that ascend, from one on, no more are of a run than the run has from there on
+run-goes-from : (run : Run) (low left : ℕ) (held : List ℕ) → AllByRecursion (λ page. low ≤ page) held → EachPair ◌<◌ held → run.count ≤ left + (low - run.first) → length held ≤ length (without_run run held) + left
+run-goes-from run low left [] from pairs few = omega arith
+run-goes-from run low left (x ∷ xs) from pairs few =
+    let later = all-weaker (λ page. x < page) (λ page. x + 1 ≤ page) xs (λ page above. omega arith) pairs.0 in
+    ⊎_elim
+    (λ (here : is_page_of run x ≡ true).
+    let parts = and_parts (nat_le run.first x) (nat_lt x (run.first + run.count)) here in
+    let start = leb-true run.first x parts.0 in
+    let end = ltb-true x (run.first + run.count) parts.1 in
+    let rest = run-goes-from run (x + 1) (left - 1) xs later pairs.1 (omega (arith, from.0)) in
+    rw here (omega (arith, from.0)))
+    (λ (other : is_page_of run x ≡ false). let rest = run-goes-from run (x + 1) left xs later pairs.1 (omega (arith, from.0)) in rw other (omega arith))
+    (cases_Bool (is_page_of run x))
 
-  all-others : (held : List ℕ) → AllByRecursion (λ other. page < other) held → length (others held) ≡ length held
-  all-others [] all = refl
-  all-others (x ∷ xs) all = let test : (x == page) ≡ false = grind (arith, nat_tests, all.0) in rw test (ap (λ n. suc n) (all-others xs all.1))
+pub run-goes : (run : Run) (held : List ℕ) → EachPair ◌<◌ held → length held ≤ length (without_run run held) + run.count
+run-goes run held pairs = run-goes-from run 0 run.count held (all-from_0 held) pairs (omega arith)
 
-  one-goes : (held : List ℕ) → EachPair ◌<◌ held → length held ≤ length (others held) + 1
-  one-goes [] pairs = omega arith
-  one-goes (x ∷ xs) pairs = ⊎_elim
-      (λ (here : (x == page) ≡ true).
-      let same = eqb-true x page here in
-      let rest = all-others xs (subst (λ p. AllByRecursion (λ other. p < other) xs) same pairs.0) in
-      rw here (omega arith))
-      (λ (other : (x == page) ≡ false). let rest = one-goes xs pairs.1 in rw other (omega arith))
-      (cases_Bool (x == page))
+-- a run comes of which no page was held
+module _ (run : Run) where
+  abbrev is_below : ℕ → Bool
+  is_below page = nat_lt page run.first
 
-  pub page-goes : (held : List ℕ) → EachPair ◌<◌ held → length held ≤ length (without_run (one_page page) held) + 1
-  page-goes held pairs = let all = one-goes held pairs in omega (arith, ap length (filter-other page held))
+  abbrev is_above : ℕ → Bool
+  is_above page = nat_le (run.first + run.count) page
+
+  beside-run : (held : List ℕ) → ((page : ℕ) → run.first ≤ page → page < run.first + run.count → is_held held page ≡ false) → length held ≤ length (filter is_below held) + length (filter is_above held)
+  beside-run [] fresh = omega arith
+  beside-run (x ∷ xs) fresh =
+      let rest = beside-run xs (λ page low high. (or_none (nat_eq page x) (is_held xs page) (fresh page low high)).1) in
+      ⊎_elim
+      (λ (lt : x < run.first). let below : is_below x ≡ true = lt-ltb x run.first lt in rw below (omega (arith, longer (is_above x) x (filter is_above xs))))
+      (λ (le : run.first ≤ x). ⊎_elim
+      (λ (lt : x < run.first + run.count). absurd (true≢false (sym (eq-eqb x x refl) ∙ (or_none (nat_eq x x) (is_held xs x) (fresh x le lt)).0)))
+      (λ (past : run.first + run.count ≤ x). let above : is_above x ≡ true = le-leb (run.first + run.count) x past in rw above (omega (arith, longer (is_below x) x (filter is_below xs))))
+      (cases_lt x (run.first + run.count)))
+      (cases_lt x run.first)
+    where
+      longer : (b : Bool) (y : ℕ) (ys : List ℕ) → length ys ≤ length (cond b (y ∷ ys) ys)
+      longer true y ys = omega arith
+      longer false y ys = omega arith
+
+  pub run-comes : (held : List ℕ) → ((page : ℕ) → run.first ≤ page → page < run.first + run.count → is_held held page ≡ false) → length held ≤ length (with_run run held)
+  run-comes held fresh =
+      let below = filter is_below held in
+      let range = range_with_len run.first run.count in
+      let long : length (with_run run held) ≡ length below + length range + length (filter is_above held) = length-append (below ++ range) (filter is_above held) ∙ ap (λ k. k + length (filter is_above held)) (length-append below range) in
+      omega (arith, beside-run held fresh)
 
 -- ---- a count of asks
 
@@ -112,9 +140,9 @@ module _ {B A : Type 0} (g : broker.Ghosts B A) (old new : Core) where
       adds = adds;
     }
 
-    pub uses-claimed : (before after : B) (word : ℕ) (looks : List Look) (answer : Claim) → IsAsked g false before after word looks (Some answer) → length (core_state old).held ≤ length (core_state new).held
+    pub uses-claimed : (before after : B) (n word : ℕ) (looks : List Look) (answer : Claim) → n ≤ zone_pages → IsAsked g false before after n word looks (Some answer) → length (core_state old).held ≤ length (core_state new).held
         → AddsEntry g (rules_in old.state) entry before after → UsesBroker g (view_of old before) (view_of new after) reply
-    uses-claimed before after word looks answer asked more adds = record {
+    uses-claimed before after n word looks answer few asked more adds = record {
       same = asked.same;
       spent = spent answer asked.spent;
       asked = λ no_run. asks-rise (g.asks before) (g.asks after) asked.asked;
@@ -123,7 +151,7 @@ module _ {B A : Type 0} (g : broker.Ghosts B A) (old new : Core) where
       adds = adds;
     }
       where
-        spent : (a : Claim) → Spends (g.moves_left before) (g.moves_left after) 1 a → g.moves_left before + length (core_state old).held ≤ (g.moves_left after + length (core_state new).held) + 66
+        spent : (a : Claim) → Spends (g.moves_left before) (g.moves_left after) n a → g.moves_left before + length (core_state old).held ≤ (g.moves_left after + length (core_state new).held) + 66
         spent (Claimed move frames) spends = omega arith
         spent NoRun spends = omega (arith, spends.1)
 
@@ -142,7 +170,7 @@ module _ {B A : Type 0} (g : broker.Ghosts B A) (old new : Core) where
       let lets = left.1 in
       record {
         same = (lets.given).same;
-        spent = omega (arith, (lets.given).paid, page-goes left.0 (core_state old).held pairs, ap length lets.left);
+        spent = omega (arith, (lets.given).paid, run-goes left.0 (core_state old).held pairs, ap length lets.left);
         asked = λ no_run. absurd (false≢true (sym says ∙ no_run));
         entry = unasked_entry who op reply words (Some move);
         added = added;

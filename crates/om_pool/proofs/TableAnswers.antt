@@ -3,7 +3,7 @@
 use Rattle.std.proofs.Common.{◌≡◌, ℕ, zero, suc, ◌+◌, ◌-◌, ◌*◌, ◌/◌, ◌%◌, ◌<◌, ◌≤◌, Bool, true, false, ◌&&◌, ◌==◌, nat_eq, nat_le, nat_lt, if◌then◌else◌, List, [], ◌∷◌, map, Option, Some, None, IsSome, IsTrue, refl, sym, subst, ap, ◌∙◌, arith}
 use Rattle.std.specs.List.{find, flat_map, list_any, range_with_len, slice_get, AllByRecursion}
 use Rattle.std.specs.Option.{is_some, is_none, option_and_then, option_map}
-use Rattle.std.proofs.lemmas.Bool.{true≢false, cases_Bool, and_parts, eqb-true, le-leb, le-ltb, leb-true, lt-ltb, ltb-true}
+use Rattle.std.proofs.lemmas.Bool.{true≢false, cases_Bool, and_from, and_left, and_right, and_parts, eq-eqb, eqb-true, le-leb, le-ltb, leb-true, lt-ltb, ltb-true}
 use Rattle.std.proofs.lemmas.Bool.Decides.{nat_tests}
 use Rattle.std.proofs.Math.Nat.{div-add-mod, mul_comm}
 use mathlib.Core.Logic.{⊎_elim}
@@ -12,29 +12,32 @@ use Rattle.om_chunk.specs.Places.{ChunkPage, place_at}
 use Rattle.om_chunk.specs.declared.place.Place as chunk
 use Rattle.om_chunk.specs.declared.place.Place.TheVariants as has
 use Rattle.om_geom.specs.Addresses.{address_of, is_in_arena, page_at}
-use Rattle.om_geom.specs.Classes.{is_class, places_of, stride_of}
+use Rattle.om_geom.specs.Classes.{data_pages, is_class, places_of, stride_of}
 use Rattle.om_geom.specs.FitLaws.{find-passes}
 use Rattle.om_geom.specs.Numbers.{first_address, zone_pages}
 use Rattle.om_geom.specs.declared.class.Class.{Class}
 use Rattle.om_model.specs.Pool.Access.{barred, bar_of, page_state, state_by_kind}
-use Rattle.om_model.specs.Pool.InUse.{Kind, Chunk, Pages, Guard, Use, use_of_place, uses_by_class, uses_of_block, uses, touches, page_kind, is_free_page}
-use Rattle.om_model.specs.Pool.Journal.{AreServed}
+use Rattle.om_model.specs.Pool.InUse.{Kind, Chunk, Pages, Guard, Use, use_of_place, uses_of_block, uses, touches, page_kind, is_free_page}
 use Rattle.om_model.specs.Pool.Picks.{place_address, starts_place}
-use Rattle.om_model.specs.Pool.Rules.{Rules, size_class}
+use Rattle.om_model.specs.Pool.Rules.{Rules}
 use Rattle.om_model.specs.Pool.Standing.{NotHeld, LivePlace, DelayedPlace, Unaligned, block_at, delayed_at, in_pages, at_place, on_page, standing}
-use Rattle.om_model.specs.Pool.State.{State, delayed, is_held}
+use Rattle.om_model.specs.Pool.State.{State, delayed, holds, is_held}
 use Rattle.om_model.specs.Pool.WellFormed.{AreAlike}
 use Rattle.om_model.specs.declared.block.Block.{Block}
 use Rattle.om_model.specs.declared.block.Place.{Place}
 use Rattle.om_model.specs.declared.reply.Reply.TheVariants.{Miss}
 use Rattle.om_model.proofs.Each.{all-weaker, all-both, all-append, all-second, all-find, none-any}
 use Rattle.om_model.proofs.Free.{alike-on_page}
+use Rattle.om_model.proofs.PageKinds.{standing-first, standing-inside}
 use Rattle.om_model.proofs.Sound.{HasWholePages, IsPlaced, IsSound, place-kind, same_class, shape-chunk, touches-first}
 use Rattle.om_pages.specs.Kinds as kinds
 use Rattle.om_pages.specs.Tables.{kind_of}
 use Rattle.om_pages.specs.declared.kind.PageKind.TheVariants as page_is
-use Rattle.om_pool.specs.ByTables.{at_place_of, standing_on, standing_by, barred_on, barred_by}
+use Rattle.om_pool.specs.ByTables.{at_block_of, at_place_of, standing_on, standing_by, barred_on, barred_by}
+use Rattle.om_pool.specs.Standing.{IsPageBlock, Means}
 use Rattle.om_pool.specs.Tables.{Tables, StandFor, block_on, kind_by, has_by, place_has, chunk_page, chunk_by}
+use Rattle.om_pool.specs.declared.standing.Standing.TheVariants as code
+use Rattle.om_pool.proofs.WholeBlocks.{IsOfBlock, page-of}
 
 -- ---- lists
 
@@ -105,22 +108,6 @@ module _ (rules : Rules) (state : State) (page : ℕ) where
       (none-found (λ block. list_any (touches page) (f block)) state.live none)))
       (all-weaker IsSplit P waiting (λ one split touched. split) (waiting-split (delayed state.slots))))
       kind whole is
-
-  served-split : (block : Block) (class : Option ℕ) → is_some class ≡ true → AllByRecursion IsSplit (uses_by_class rules block class)
-  served-split block None served = cc
-  served-split block (Some class) served = ((λ whole. whole), tt)
-
-  -- where each block is a chunk there is no such page
-  pub served-chunks : AreServed rules state → (kind : Kind) → HasWholePages kind → page_kind (uses rules state) page ≡ Some kind → ⊥
-  served-chunks served =
-      let P : Use → Type 0 = λ one. touches page one ≡ true → IsSplit one in
-      let f = uses_of_block rules in
-      let waiting = map use_of_place (delayed state.slots) in
-      split-kind (uses rules state) page
-      (all-weaker IsSplit P (uses rules state) (λ one split touched. split)
-      (all-append IsSplit (flat_map f state.live) waiting
-      (flat-all IsSplit f state.live (all-weaker (λ block. is_some (size_class rules block.size) ≡ true) (λ block. AllByRecursion IsSplit (f block)) state.live (λ block is. served-split block (size_class rules block.size) is) served))
-      (waiting-split (delayed state.slots))))
 
 -- ---- held pages and free ones
 
@@ -267,18 +254,18 @@ module _ (rules : Rules) (tables : Tables) (state : State) (stands : StandFor ru
   -- what begins there
   stand-place : (delayed : Option Place) (block : Option Block)
       → ((place : Place) → delayed ≡ Some place → record { address = address; class = class } ≡ place) → ((b : Block) → block ≡ Some b → b.address ≡ address)
-      → at_place_of class address (Some (has_by delayed block)) ≡ at_place class address block delayed
-  stand-place (Some place) block waits lives = ap DelayedPlace (waits place refl)
-  stand-place None (Some block) waits lives = ap (λ a. LivePlace (record { address = address; class = class }) (record { address = a; size = block.size; site = block.site })) (sym (lives block refl))
+      → Means (at_place_of class address (Some (has_by delayed block))) (at_place class address block delayed)
+  stand-place (Some place) block waits lives = ap DelayedPlace (sym (waits place refl))
+  stand-place None (Some block) waits lives = ap (λ a. LivePlace (record { address = address; class = class }) (record { address = a; size = block.size; site = block.site })) (lives block refl)
   stand-place None None waits lives = refl
 
   block-begins : (block : Block) → block_at state address ≡ Some block → block.address ≡ address
   block-begins block found = eqb-true block.address address (find-passes (λ (b : Block). b.address == address) state.live block found)
 
-  stands-chunk : IsSound rules state → at_place_of class address (place_in tables.chunks address) ≡ on_page state address (Some (Chunk class))
-  stands-chunk is = ap (at_place_of class address) place-on ∙ by (starts_place class address)
+  stands-chunk : IsSound rules state → Means (at_place_of class address (place_in tables.chunks address)) (on_page state address (Some (Chunk class)))
+  stands-chunk is = subst (λ o. Means (at_place_of class address o) (on_page state address (Some (Chunk class)))) (sym place-on) (by (starts_place class address))
     where
-      by : (starts : Bool) → at_place_of class address (if starts then Some (place_has state address) else None) ≡ (if starts then at_place class address (block_at state address) (delayed_at state address) else Unaligned)
+      by : (starts : Bool) → Means (at_place_of class address (if starts then Some (place_has state address) else None)) (if starts then at_place class address (block_at state address) (delayed_at state address) else Unaligned)
       by true = stand-place (delayed_at state address) (block_at state address) (λ place. delayed-class rules state is (page_at address) class kind place address refl) block-begins
       by false = refl
 
@@ -286,28 +273,50 @@ module _ (rules : Rules) (tables : Tables) (state : State) (is : IsSound rules s
   abbrev here : ℕ
   here = page_at address
 
-  -- page blocks aren't served so far
-  pub standing-by : AreServed rules state → standing_by rules.zones tables address ≡ standing rules state address
-  standing-by served = by (is_in_arena address rules.zones) refl
+  -- on a data page of a block: its first byte, or another
+  on-data : (block : Block) → IsOfBlock rules state here block → first_address ≤ address → Means (at_block_of address (record { 0 = page_at block.address }) (data_pages block.size)) (standing rules state address)
+  on-data block of low = by ((here == page_at block.address) && (address_of here == address)) refl
     where
-      kind-by : (low : first_address ≤ address) (there : here < zone_pages * rules.zones) (kind : Option Kind) → page_kind (uses rules state) here ≡ kind
-          → standing_on tables address (kind_by (block_on rules state here) kind) ≡ on_page state address kind
-      kind-by low there None e = refl
-      kind-by low there (Some (Chunk class)) e = stands-chunk rules tables state stands address low there class e is
-      kind-by low there (Some Pages) e = absurd (served-chunks rules state here served Pages tt e)
-      kind-by low there (Some Guard) e = absurd (served-chunks rules state here served Guard tt e)
+      by : (at : Bool) → ((here == page_at block.address) && (address_of here == address)) ≡ at
+          → Means (if at then code.PageBlock (record { 0 = page_at block.address }) (data_pages block.size) else code.InPageBlock) (standing rules state address)
+      by true is_at =
+          let parts = and_parts (here == page_at block.address) (address_of here == address) is_at in
+          let at : block.address ≡ address = of.begins ∙ ap address_of (sym (eqb-true here (page_at block.address) parts.0)) ∙ eqb-true (address_of here) address parts.1 in
+          subst (IsPageBlock (page_at block.address) (data_pages block.size)) (sym (ap (standing rules state) (sym at) ∙ standing-first rules state is block of.live of.none)) (refl, refl)
+      by false isnt =
+          let begins = of.begins in
+          let from = of.low in
+          let to = of.high in
+          standing-inside rules state is block of.live of.none address (omega arith, omega arith)
+          (λ at. true≢false (sym (and_from _ _ (eq-eqb here (page_at block.address) (ap page_at (sym at))) (eq-eqb (address_of here) address (ap (λ a. address_of (page_at a)) (sym at) ∙ sym begins ∙ at))) ∙ isnt))
 
-      on : (low : first_address ≤ address) (there : here < zone_pages * rules.zones) (held : Bool)
-          → standing_on tables address (if held then kind_by (block_on rules state here) (page_kind (uses rules state) here) else page_is.Absent) ≡ (if held then on_page state address (page_kind (uses rules state) here) else NotHeld)
-      on low there true = kind-by low there (page_kind (uses rules state) here) refl
-      on low there false = refl
+  -- the tables say what stands there
+  pub means-by : Means (standing_by rules.zones tables address) (standing rules state address)
+  means-by = by (is_in_arena address rules.zones) refl
+    where
+      kind-by : first_address ≤ address → here < zone_pages * rules.zones → (kind : Option Kind) → page_kind (uses rules state) here ≡ kind → standing rules state address ≡ on_page state address kind
+          → (found : Option Block) → block_on rules state here ≡ found → Means (standing_on tables address (kind_by found kind)) (standing rules state address)
+      kind-by low there None kind_is at found found_is = at
+      kind-by low there (Some (Chunk class)) kind_is at found found_is =
+          subst (λ o. Means (at_place_of class address (place_in tables.chunks address)) o) (sym at) (stands-chunk rules tables state stands address low there class kind_is is)
+      kind-by low there (Some Pages) kind_is at None found_is = absurd (block-there rules state here Pages tt kind_is found_is)
+      kind-by low there (Some Pages) kind_is at (Some block) found_is = on-data block (page-of rules state is here kind_is block found_is) low
+      kind-by low there (Some Guard) kind_is at None found_is = absurd (block-there rules state here Guard tt kind_is found_is)
+      kind-by low there (Some Guard) kind_is at (Some block) found_is = at
 
-      by : (inside : Bool) → is_in_arena address rules.zones ≡ inside
-          → (if inside then standing_on tables address (kind_of tables.pages here) else NotHeld) ≡ (if inside && is_held state.held here then on_page state address (page_kind (uses rules state) here) else NotHeld)
+      at-holds : (held : Bool) → holds rules state address ≡ held → standing rules state address ≡ (if held then on_page state address (page_kind (uses rules state) here) else NotHeld)
+      at-holds held is_held = ap (λ b. if b then on_page state address (page_kind (uses rules state) here) else NotHeld) is_held
+
+      on : first_address ≤ address → here < zone_pages * rules.zones → is_in_arena address rules.zones ≡ true → (held : Bool) → is_held state.held here ≡ held
+          → Means (standing_on tables address (if held then kind_by (block_on rules state here) (page_kind (uses rules state) here) else page_is.Absent)) (standing rules state address)
+      on low there inside true held = kind-by low there (page_kind (uses rules state) here) refl (at-holds true (and_from _ _ inside held)) (block_on rules state here) refl
+      on low there inside false held = at-holds false (and_right _ _ held)
+
+      by : (inside : Bool) → is_in_arena address rules.zones ≡ inside → Means (if inside then standing_on tables address (kind_of tables.pages here) else code.NotHeld) (standing rules state address)
       by true inside =
           let at = arena-page rules tables state stands address inside in
-          ap (standing_on tables address) (stands.pages here at.1) ∙ on at.0 at.1 (is_held state.held here)
-      by false inside = refl
+          subst (λ k. Means (standing_on tables address k) (standing rules state address)) (sym (stands.pages here at.1)) (on at.0 at.1 inside (is_held state.held here) refl)
+      by false outside = at-holds false (and_left _ _ outside)
 
 -- ---- where a live place stands
 

@@ -88,7 +88,7 @@ all-from : (a n : ℕ) → AllByRecursion (λ page. a ≤ page) (range_with_len 
 all-from a zero = tt
 all-from a (suc n) = (omega arith, all-weaker (λ page. a + 1 ≤ page) (λ page. a ≤ page) (range_with_len (a + 1) n) (λ page later. omega arith) (all-from (a + 1) n))
 
-find-nothing : {X : Type 0} (test : X → Bool) (xs : List X) → AllByRecursion (λ x. test x ≡ false) xs → find test xs ≡ None
+pub find-nothing : {X : Type 0} (test : X → Bool) (xs : List X) → AllByRecursion (λ x. test x ≡ false) xs → find test xs ≡ None
 find-nothing test [] all = refl
 find-nothing test (x ∷ xs) all = rw all.0 (find-nothing test xs all.1)
 

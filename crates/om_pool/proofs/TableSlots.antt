@@ -19,8 +19,7 @@ use Rattle.om_geom.specs.Classes.{is_class, places_of}
 use Rattle.om_geom.specs.FitLaws.{find-passes, list_all-range, list_all-range_from}
 use Rattle.om_geom.specs.Numbers.{first_address, zone_pages}
 use Rattle.om_model.specs.Pool.Free.{without_block, slot_of, into_slot}
-use Rattle.om_model.specs.Pool.InUse.{Kind, Chunk, Use, use_of_place, uses_by_class, uses_of_block, uses, touches, page_kind, is_free_page}
-use Rattle.om_model.specs.Pool.Journal.{AreServed, is_served}
+use Rattle.om_model.specs.Pool.InUse.{Kind, Chunk, Pages, Guard, Use, use_of_place, data_of, guard_of, uses_by_class, uses_of_pages, uses_of_block, uses, touches, page_kind, is_free_page}
 use Rattle.om_model.specs.Pool.Picks.{place_address}
 use Rattle.om_model.specs.Pool.Rules.{Rules, size_class}
 use Rattle.om_model.specs.Pool.Standing.{block_at, delayed_at}
@@ -28,12 +27,13 @@ use Rattle.om_model.specs.Pool.State.{State, slot_count, delayed, is_held}
 use Rattle.om_model.specs.Pool.WellFormed.{BeginsRight}
 use Rattle.om_model.specs.declared.block.Block.{Block}
 use Rattle.om_model.specs.declared.block.Place.{Place}
-use Rattle.om_model.proofs.Each.{all-weaker, all-both, all-each, all-append, all-first, all-second, all-filter, any-none, pairs-second, pairs-across}
+use Rattle.om_model.proofs.Each.{all-weaker, all-both, all-each, all-append, all-first, all-second, any-none, pairs-second, pairs-across}
+use Rattle.om_model.proofs.Flat.{all-flat}
 use Rattle.om_model.proofs.Free.{of-block, of-left}
 use Rattle.om_model.proofs.Malloc.{chunk-uses}
 use Rattle.om_model.proofs.PageKinds.{all-have, without_block-others, into_slot-kind}
 use Rattle.om_model.proofs.Places.{IsUntouched, untouched-free}
-use Rattle.om_model.proofs.Sound.{IsPlaced, IsSound, GoTogether, first_of, place-at, place-kind, shape-chunk, same_class, together-swap, touches-first, touches-place, well-formed}
+use Rattle.om_model.proofs.Sound.{HasWholePages, IsPlaced, IsSound, GoTogether, first_of, place-at, place-kind, shape-chunk, same_class, together-swap, touches-first, touches-place, well-formed, whole-no_chunk}
 use Rattle.om_pages.specs.Tables.{kind_of, with_run}
 use Rattle.om_pages.specs.TableLaws.{length-with_run, kind_of-with_run_in, kind_of-with_run_out}
 use Rattle.om_pages.specs.declared.kind.PageKind.{PageKind}
@@ -45,21 +45,25 @@ use Rattle.om_pool.proofs.TableSteps.{page_by, chunk_page_by, Shows, Unbegun, pa
 
 -- ---- what is found, and what is in use
 
-skipped : (a b : ℕ) (x : Block) (xs : List Block) (gone : Bool) → (x.address == b) ≡ gone → (x.address == a) ≡ false → find (λ block. block.address == a) (filter (λ block. not (block.address == b)) xs) ≡ find (λ block. block.address == a) xs
-    → find (λ block. block.address == a) (filter (λ block. not (block.address == b)) (x ∷ xs)) ≡ find (λ block. block.address == a) xs
-skipped a b x xs true is f rest = rw is rest
-skipped a b x xs false is f rest = rw is (rw f rest)
+all-of : (P : Block → Type 0) (live : List Block) → ((block : Block) → P block) → AllByRecursion P live
+all-of P [] each = tt
+all-of P (x ∷ xs) each = (each x, all-of P xs each)
+
+-- what passes none of the blocks at the address is found among the others
+find-others : (test : Block → Bool) (address : ℕ) (live : List Block) → AllByRecursion (λ block. (block.address == address) ≡ true → test block ≡ false) live
+    → find test (filter (λ block. not (block.address == address)) live) ≡ find test live
+find-others test address [] all = refl
+find-others test address (x ∷ xs) all =
+    let rest = find-others test address xs all.1 in
+    ⊎_elim
+    (λ here. let isnt : test x ≡ false = all.0 here in rw here (rest ∙ sym (ap (λ b. cond b (Some x) (find test xs)) isnt)))
+    (λ other. rw other (ap (cond (test x) (Some x)) rest))
+    (cases_Bool (x.address == address))
 
 find-left : (a b : ℕ) → ¬ (a ≡ b) → (live : List Block) → find (λ block. block.address == a) (filter (λ block. not (block.address == b)) live) ≡ find (λ block. block.address == a) live
-find-left a b ne [] = refl
-find-left a b ne (x ∷ xs) =
-    let rest = find-left a b ne xs in
-    ⊎_elim
-    (λ t. let kept : (x.address == b) ≡ false = ne_eqb x.address b (λ e. ne (sym (eqb-true x.address a t) ∙ e)) in rw kept (rw t refl))
-    (λ f.
-    skipped a b x xs (x.address == b) refl f rest
-    ∙ sym (ap (λ b. cond b (Some x) (find (λ (block : Block). block.address == a) xs)) f))
-    (cases_Bool (x.address == a))
+find-left a b ne live =
+    find-others (λ block. block.address == a) b live
+    (all-of (λ block. (block.address == b) ≡ true → (block.address == a) ≡ false) live (λ block here. ne_eqb block.address a (λ e. ne (sym e ∙ eqb-true block.address b here))))
 
 has-delayed : (place : Option Place) (block : Option Block) → is_some place ≡ true → has_by place block ≡ has.Delayed
 has-delayed None block some = cc
@@ -74,58 +78,46 @@ untouched-kind : (used : List Use) (page : ℕ) → IsUntouched used page → pa
 untouched-kind [] page all = refl
 untouched-kind (x ∷ xs) page all = rw all.0 (untouched-kind xs page all.1)
 
--- the block of a page tells nothing more of it
-abbrev IsPlain : Use → Type 0
-IsPlain one = (a b : Option Block) → kind_by a (Some one.kind) ≡ kind_by b (Some one.kind)
+-- the block of a page tells nothing more of a free page, or of a chunk page
+kind-of-block : (kind : Option Kind) (a b : Option Block) → ((whole : Kind) → HasWholePages whole → kind ≡ Some whole → a ≡ b) → kind_by a kind ≡ kind_by b kind
+kind-of-block None a b same = refl
+kind-of-block (Some (Chunk class)) a b same = refl
+kind-of-block (Some Pages) a b same = ap (λ o. kind_by o (Some Pages)) (same Pages tt refl)
+kind-of-block (Some Guard) a b same = ap (λ o. kind_by o (Some Guard)) (same Guard tt refl)
 
-plain-page : (used : List Use) (page : ℕ) (a b : Option Block) → AllByRecursion IsPlain used → kind_by a (page_kind used page) ≡ kind_by b (page_kind used page)
-plain-page [] page a b all = refl
-plain-page (x ∷ xs) page a b all = ⊎_elim (λ t. rw t (all.0 a b)) (λ f. rw f (plain-page xs page a b all.1)) (cases_Bool (touches page x))
+-- no chunk begins at the address
+abbrev NoChunk : ℕ → Use → Type 0
+NoChunk address one = (class : ℕ) → one.kind ≡ Chunk class → Unbegun address one
 
--- where all live blocks are chunks
 module _ (rules : Rules) where
-  plain-live : (live : List Block) → AllByRecursion (λ block. is_served rules block.size ≡ true) live → AllByRecursion IsPlain (flat_map (uses_of_block rules) live)
-  plain-live [] served = tt
-  plain-live (block ∷ live) served = all-append IsPlain (uses_of_block rules block) (flat_map (uses_of_block rules) live) (by (size_class rules block.size) served.0) (plain-live live served.1)
+  unbegun-block : (address : ℕ) (block : Block) (own : Option ℕ) → (block.address == address) ≡ false → AllByRecursion (NoChunk address) (uses_by_class rules block own)
+  unbegun-block address block (Some own) isnt = ((λ class kind. isnt), tt)
+  unbegun-block address block None isnt = ((λ class kind. cc), behind rules.options.guard)
     where
-      by : (class : Option ℕ) → is_some class ≡ true → AllByRecursion IsPlain (uses_by_class rules block class)
-      by (Some class) some = ((λ a b. refl), tt)
-      by None some = cc
+      behind : (guards : Bool) → AllByRecursion (NoChunk address) (if guards then record { extent = guard_of block; kind = Guard } ∷ [] else [])
+      behind true = ((λ class kind. cc), tt)
+      behind false = tt
 
-  plain-waiting : (places : List Place) → AllByRecursion IsPlain (map use_of_place places)
-  plain-waiting [] = tt
-  plain-waiting (place ∷ places) = ((λ a b. refl), plain-waiting places)
-
-  unbegun-live : (address : ℕ) (live : List Block) → AllByRecursion (λ block. is_served rules block.size ≡ true) live → find (λ block. block.address == address) live ≡ None
-      → AllByRecursion (Unbegun address) (flat_map (uses_of_block rules) live)
-  unbegun-live address [] served none = tt
-  unbegun-live address (block ∷ live) served none = ⊎_elim
+  unbegun-live : (address : ℕ) (live : List Block) → find (λ block. block.address == address) live ≡ None → AllByRecursion (NoChunk address) (flat_map (uses_of_block rules) live)
+  unbegun-live address [] none = tt
+  unbegun-live address (block ∷ live) none = ⊎_elim
       (λ t. let found : Some block ≡ None = rw t at none in cc)
-      (λ f. all-append (Unbegun address) (uses_of_block rules block) (flat_map (uses_of_block rules) live) (by (size_class rules block.size) served.0 f) (unbegun-live address live served.1 (rw f at none)))
+      (λ f. all-append (NoChunk address) (uses_of_block rules block) (flat_map (uses_of_block rules) live) (unbegun-block address block (size_class rules block.size) f) (unbegun-live address live (rw f at none)))
       (cases_Bool (block.address == address))
-    where
-      by : (class : Option ℕ) → is_some class ≡ true → (block.address == address) ≡ false → AllByRecursion (Unbegun address) (uses_by_class rules block class)
-      by (Some class) some isnt = (isnt, tt)
-      by None some isnt = cc
 
-  unbegun-waiting : (address : ℕ) (places : List Place) → find (λ place. place.address == address) places ≡ None → AllByRecursion (Unbegun address) (map use_of_place places)
+  unbegun-waiting : (address : ℕ) (places : List Place) → find (λ place. place.address == address) places ≡ None → AllByRecursion (NoChunk address) (map use_of_place places)
   unbegun-waiting address [] none = tt
   unbegun-waiting address (place ∷ places) none = ⊎_elim
       (λ t. let found : Some place ≡ None = rw t at none in cc)
-      (λ f. (f, unbegun-waiting address places (rw f at none)))
+      (λ f. ((λ class kind. f), unbegun-waiting address places (rw f at none)))
       (cases_Bool (place.address == address))
 
-  module _ (state : State) (served : AreServed rules state) where
-    plain : (page : ℕ) (a b : Option Block) → kind_by a (kinds_of rules state page) ≡ kind_by b (kinds_of rules state page)
-    plain page a b =
-        plain-page (uses rules state) page a b
-        (all-append IsPlain (flat_map (uses_of_block rules) state.live) (waiting state.slots) (plain-live state.live served) (plain-waiting (delayed state.slots)))
-
-    -- where a place is free nothing begins
-    free-unbegun : (address : ℕ) → is_free (place_has state address) ≡ true → AllByRecursion (Unbegun address) (uses rules state)
+  module _ (state : State) where
+    -- where a place is free no chunk begins
+    free-unbegun : (address : ℕ) → is_free (place_has state address) ≡ true → AllByRecursion (NoChunk address) (uses rules state)
     free-unbegun address free =
         let none = has-none (delayed_at state address) (block_at state address) free in
-        all-append (Unbegun address) (flat_map (uses_of_block rules) state.live) (waiting state.slots) (unbegun-live address state.live served none.1) (unbegun-waiting address (delayed state.slots) none.0)
+        all-append (NoChunk address) (flat_map (uses_of_block rules) state.live) (waiting state.slots) (unbegun-live address state.live none.1) (unbegun-waiting address (delayed state.slots) none.0)
 
     -- a page of chunks is free exactly where its places are
     unused-page : IsSound rules state → (page class : ℕ) → IsTrue (is_class class) → (is_free_page (uses rules state) page ≡ false → kinds_of rules state page ≡ Some (Chunk class))
@@ -140,8 +132,8 @@ module _ (rules : Rules) where
         (λ free. list_all-range_from (λ i. is_free (shown i)) 0 n (λ i from low. ap is_free (free-places rules state is page class is_one (untouched-free used page free) i (omega arith))) ∙ sym free)
         (λ in_use. ⊎_elim
         (λ all.
-        let Here : Use → Type 0 = λ one. (i : ℕ) → i < n → Unbegun (place_address page class i) one in
-        let unbegun : AllByRecursion Here used = all-each (λ i. i < n) (λ i. Unbegun (place_address page class i)) used
+        let Here : Use → Type 0 = λ one. (i : ℕ) → i < n → NoChunk (place_address page class i) one in
+        let unbegun : AllByRecursion Here used = all-each (λ i. i < n) (λ i. NoChunk (place_address page class i)) used
         (λ i low. free-unbegun (place_address page class i) (list_all-range (λ i. is_free (shown i)) 0 n all i (omega arith) (omega arith))) in
         let OfKind : Use → Type 0 = λ one. touches page one ≡ true → Some one.kind ≡ page_kind used page in
         let untouched = all-both Here (λ one. IsPlaced rules state.held one × OfKind one) (λ one. touches page one ≡ false) used
@@ -153,7 +145,7 @@ module _ (rules : Rules) where
         let same : on.class ≡ class = same_class on.class class (sym (place-kind one on) ∙ kind) in
         let first : first_of one ≡ place_address page class on.index = ap first_of on.one_is ∙ ap (λ p. place_address p on.class on.index) here ∙ ap (λ c. place_address page c on.index) same in
         let low : on.index < n = subst (λ c. on.index < places_of c) same on.below in
-        absurd (true≢false (sym (eq-eqb (first_of one) (place_address page class on.index) first) ∙ none on.index low)))
+        absurd (true≢false (sym (eq-eqb (first_of one) (place_address page class on.index) first) ∙ none on.index low class kind)))
         (λ isnt. isnt)
         (cases_Bool (touches page one)))
         unbegun (all-both (IsPlaced rules state.held) OfKind (λ one. IsPlaced rules state.held one × OfKind one) used (λ one first second. (first, second)) sound.placed (all-have rules state.held used sound page)) in
@@ -161,6 +153,22 @@ module _ (rules : Rules) where
         (λ some. some ∙ sym in_use)
         (cases_Bool (list_all (λ i. is_free (shown i)) (range_with_len 0 n))))
         (cases_Bool (is_free_page used page))
+
+-- what is in use lies where it may, and has the kind of the page where it touches that
+abbrev pub IsKindOn : Rules → State → ℕ → Use → Type 0
+IsKindOn rules state page one = IsPlaced rules state.held one × (touches page one ≡ true → Some one.kind ≡ kinds_of rules state page)
+
+pub all-kind_on : (rules : Rules) (state : State) → IsSound rules state → (page : ℕ) → AllByRecursion (IsKindOn rules state page) (uses rules state)
+all-kind_on rules state is page =
+    let sound = is.sound in
+    all-both (IsPlaced rules state.held) (λ one. touches page one ≡ true → Some one.kind ≡ kinds_of rules state page) (IsKindOn rules state page) (uses rules state)
+    (λ one placed like. (placed, like)) sound.placed (all-have rules state.held (uses rules state) sound page)
+
+-- no page block begins on a chunk page
+pub no-pages : (rules : Rules) (state : State) (block : Block) (class : ℕ) → kinds_of rules state (page_at block.address) ≡ Some (Chunk class) → AllByRecursion (IsKindOn rules state (page_at block.address)) (uses_of_pages rules block) → ⊥
+no-pages rules state block class kind all =
+    let same : Some Pages ≡ Some (Chunk class) = (all.0).1 (touches-first (record { extent = data_of block; kind = Pages }) ((all.0).0).shape) ∙ kind in
+    cc
 
 -- ---- a place that is in use, and its page
 
@@ -222,7 +230,7 @@ chunk-if false shown page class = refl
 -- ---- a live place enters a slot
 
 module _ (rules : Rules) (tables : Tables) (state : State) (place : Place) (block : Block) (slot : ℕ) (live : block_at state place.address ≡ Some block) (class_is : size_class rules block.size ≡ Some place.class)
-    (low : slot < slot_count) (served : AreServed rules state) (is : IsSound rules state) (next_is : IsSound rules (into_slot state slot place)) (stand : StandFor rules tables state) where
+    (low : slot < slot_count) (is : IsSound rules state) (next_is : IsSound rules (into_slot state slot place)) (stand : StandFor rules tables state) where
   abbrev next : State
   next = into_slot state slot place
 
@@ -237,9 +245,6 @@ module _ (rules : Rules) (tables : Tables) (state : State) (place : Place) (bloc
 
   slot-there : slot < length state.slots
   slot-there = let long = is.slots in omega arith
-
-  next-served : AreServed rules next
-  next-served = all-filter (λ (b : Block). is_served rules b.size ≡ true) (λ (b : Block). not (b.address == place.address)) state.live served
 
   own-uses : uses_of_block rules block ≡ use_of_place place ∷ []
   own-uses =
@@ -295,10 +300,40 @@ module _ (rules : Rules) (tables : Tables) (state : State) (place : Place) (bloc
       (used-kind p)
       (cases_Bool (is_free_page (uses rules next) p))
 
+  -- the block of whole pages there is another one
+  block-clear : (p : ℕ) (whole : Kind) → HasWholePages whole → kinds_of rules state p ≡ Some whole → (other : Block) (own : Option ℕ) → other.address ≡ place.address
+      → AllByRecursion (λ one. IsKindOn rules state p one × IsKindOn rules state (page_at place.address) one) (uses_by_class rules other own) → list_any (touches p) (uses_by_class rules other own) ≡ false
+  block-clear p whole is_whole kind other (Some class) here all =
+      let one = use_of_place (record { address = other.address; class = class }) in
+      any-none (touches p) (one ∷ []) (
+        ⊎_elim
+            (λ touched. let same : Some (Chunk class) ≡ Some whole = ((all.0).0).1 touched ∙ kind in absurd (whole-no_chunk whole class is_whole (let is : whole ≡ Chunk class = cc in is)))
+            (λ isnt. isnt)
+            (cases_Bool (touches p one)),
+        tt,
+      )
+  block-clear p whole is_whole kind other None here all =
+      let shown = own-shown in
+      let K : ℕ → Type 0 = λ page. AllByRecursion (IsKindOn rules state page) (uses_of_pages rules other) in
+      let at : ℕ = page_at place.address in
+      let second = all-weaker (λ one. IsKindOn rules state p one × IsKindOn rules state at one) (IsKindOn rules state at) (uses_of_pages rules other) (λ one both. both.1) all in
+      absurd (no-pages rules state other place.class (ap (λ a. kinds_of rules state (page_at a)) here ∙ shown.kind) (subst K (ap page_at (sym here)) second))
+
+  block-stays : (p : ℕ) (whole : Kind) → HasWholePages whole → kinds_of rules state p ≡ Some whole → block_on rules state p ≡ block_on rules next p
+  block-stays p whole is_whole kind =
+      let at : ℕ = page_at place.address in
+      let P : Use → Type 0 = λ one. IsKindOn rules state p one × IsKindOn rules state at one in
+      let f = uses_of_block rules in
+      let all = all-both (IsKindOn rules state p) (IsKindOn rules state at) P used (λ one first second. (first, second)) (all-kind_on rules state is p) (all-kind_on rules state is at) in
+      sym (find-others (λ other. list_any (touches p) (f other)) place.address state.live
+      (all-weaker (λ other. AllByRecursion P (f other)) (λ other. (other.address == place.address) ≡ true → list_any (touches p) (f other) ≡ false) state.live
+      (λ other each here. block-clear p whole is_whole kind other (size_class rules other.size) (eqb-true other.address place.address here) each)
+      (all-flat f P state.live (all-first P live_uses (waiting state.slots) all))))
+
   others-stay : (p : ℕ) → kinds_of rules next p ≡ kinds_of rules state p → kind_in rules state p ≡ kind_in rules next p
   others-stay p same =
       kind-stays (is_held state.held p) (block_on rules state p) (block_on rules next p) (kinds_of rules state p) (kinds_of rules next p)
-      (plain rules state served p (block_on rules state p) (block_on rules next p) ∙ ap (kind_by (block_on rules next p)) (sym same))
+      (kind-of-block (kinds_of rules state p) (block_on rules state p) (block_on rules next p) (block-stays p) ∙ ap (kind_by (block_on rules next p)) (sym same))
 
   -- the slot had nothing
   pub put-off-new : slot_of state slot ≡ None
@@ -396,7 +431,7 @@ module _ (rules : Rules) (tables : Tables) (state : State) (place : Place) (bloc
     gone-there = let own = gone-shown in let there = own.there in let shown = before-shown in let long = shown.long in omega arith
 
     gone-unused : is_unused (page_by (place_has next) gone_page gone.class) ≡ is_free_page (uses rules next) gone_page
-    gone-unused = let own = gone-shown in unused-page rules next next-served next_is gone_page gone.class own.is (λ in_use. used-kind gone_page in_use ∙ own.kind)
+    gone-unused = let own = gone-shown in unused-page rules next next_is gone_page gone.class own.is (λ in_use. used-kind gone_page in_use ∙ own.kind)
 
     left-is : page_left before gone.address ≡ (if is_free_page (uses rules next) gone_page then None else Some (page_by (place_has next) gone_page gone.class))
     left-is =

@@ -54,7 +54,7 @@ abbrev pub HaveClasses : (ℕ → Option Kind) → Type 0
 HaveClasses kinds = (page class : ℕ) → kinds page ≡ Some (Chunk class) → IsTrue (is_class class)
 
 module _ (old new : ℕ → chunk.Place) where
-  page-same : (page class : ℕ) → ((i : ℕ) → i < places_of class → new (place_address page class i) ≡ old (place_address page class i)) → page_by old page class ≡ page_by new page class
+  pub page-same : (page class : ℕ) → ((i : ℕ) → i < places_of class → new (place_address page class i) ≡ old (place_address page class i)) → page_by old page class ≡ page_by new page class
   page-same page class same =
       let n = places_of class in
       let before : ℕ → chunk.Place = λ i. old (place_address page class i) in
@@ -238,7 +238,7 @@ pub kind-stays : (held : Bool) (old new : Option Block) (old_kind new_kind : Opt
     → (if held then kind_by old old_kind else table.Absent) ≡ (if held then kind_by new new_kind else table.Absent)
 kind-stays held old new old_kind new_kind same = ap (λ (kind : PageKind). if held then kind else table.Absent) same
 
-or-none : {X : Type 0} (o : Option X) → option_or o None ≡ o
+pub or-none : {X : Type 0} (o : Option X) → option_or o None ≡ o
 or-none None = refl
 or-none (Some x) = refl
 

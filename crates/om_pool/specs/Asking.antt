@@ -6,7 +6,8 @@ use Rattle.om_broker.specs.declared.broker.Broker as broker
 use Rattle.om_broker.specs.declared.broker.Claim.{Claim}
 use Rattle.om_broker.specs.declared.broker.Claim.TheVariants.{Claimed, NoRun}
 use Rattle.om_model.specs.Pool.Runs.{Run, run_of}
-use Rattle.om_model.specs.Pool.State.{is_held, without_run}
+use Rattle.om_geom.specs.Numbers.{zone_pages}
+use Rattle.om_model.specs.Pool.State.{without_run}
 use Rattle.om_model.specs.declared.entry.Move.{Move}
 use Rattle.om_model.specs.declared.looks.Look.{Look}
 
@@ -34,28 +35,27 @@ module _ {B A : Type 0} (g : broker.Ghosts B A) where
     pub spent : Spends (g.moves_left old) (g.moves_left new) n answer
     pub made : Adds g.made old new (moves_of_claim word answer) (ShowsSearch n word looks answer)
 
-  -- it is asked for a page by the word only where the pool has none
-  abbrev pub IsAsked : Bool → B → B → ℕ → List Look → Option Claim → Type 0
-  IsAsked true old new word looks answer = (new ≡ old) × (looks ≡ []) × (answer ≡ None)
-  IsAsked false old new word looks None = ⊥
-  IsAsked false old new word looks (Some answer) = IsSearched old new 1 word looks answer
+  -- it is asked for so many pages by the word only where the pool has none
+  abbrev pub IsAsked : Bool → B → B → ℕ → ℕ → List Look → Option Claim → Type 0
+  IsAsked true old new n word looks answer = (new ≡ old) × (looks ≡ []) × (answer ≡ None)
+  IsAsked false old new n word looks None = ⊥
+  IsAsked false old new n word looks (Some answer) = IsSearched old new n word looks answer
 
-  -- the page was given back
-  pub record IsGiven (old new : B) (page : ℕ) (move : Move) : Type 0 where
+  -- the run was given back
+  pub record IsGiven (old new : B) (run : Run) (move : Move) : Type 0 where
     pub same : IsSameBroker old new
     pub asked : g.asks new ≡ g.asks old
-    pub paid : g.moves_left new ≡ g.moves_left old
+    pub paid : g.moves_left new + 1 ≡ g.moves_left old + run.count
     pub made : Adds g.made old new (released move ∷ []) ShowsNothingElse
-    pub run_is : run_of move ≡ one_page page
-    pub inside : move.first + move.count ≤ 32
+    pub run_is : run_of move ≡ run
+    pub inside : move.first + move.count ≤ zone_pages
 
-  -- it was held, and is held no longer
-  pub record IsLetGo (old new : B) (before after : List ℕ) (page : ℕ) (move : Move) : Type 0 where
-    pub given : IsGiven old new page move
-    pub held : is_held before page ≡ true
-    pub left : after ≡ without_run (one_page page) before
+  -- its pages are held no longer
+  pub record IsLetGo (old new : B) (before after : List ℕ) (run : Run) (move : Move) : Type 0 where
+    pub given : IsGiven old new run move
+    pub left : after ≡ without_run run before
 
   -- what becomes of the broker and of the held pages by a release, or by none
   abbrev pub IsLeft : B → B → List ℕ → List ℕ → Option Move → Type 0
   IsLeft old new before after None = (new ≡ old) × (after ≡ before)
-  IsLeft old new before after (Some move) = (page : ℕ) × IsLetGo old new before after page move
+  IsLeft old new before after (Some move) = (run : Run) × IsLetGo old new before after run move

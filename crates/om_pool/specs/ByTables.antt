@@ -1,18 +1,20 @@
 -- Questions as they are asked of the tables.
-use Rattle.std.specs.Prelude.{ℕ, ◌==◌, Option, Some, None, if◌then◌else◌}
+use Rattle.std.specs.Prelude.{ℕ, ◌&&◌, ◌==◌, Option, Some, None, if◌then◌else◌}
 use Rattle.om_chunk.specs.Pages.{place_in}
 use Rattle.om_chunk.specs.declared.place.Place as chunk
 use Rattle.om_chunk.specs.declared.place.Place.TheVariants as has
-use Rattle.om_geom.specs.Addresses.{is_in_arena, page_at}
+use Rattle.om_geom.specs.Addresses.{address_of, is_in_arena, page_at}
+use Rattle.om_geom.specs.declared.address.Page.{Page}
 use Rattle.om_model.specs.Pool.Access.{PageState, Plain, Shut, Guarding, bar_of}
 use Rattle.om_model.specs.Pool.Rules.{Rules}
-use Rattle.om_model.specs.Pool.Standing.{Standing, NotHeld, FreePage, InPageBlock, OnGuard, LivePlace, DelayedPlace, FreePlace, Unaligned}
 use Rattle.om_model.specs.declared.reply.Reply.{Reply}
 use Rattle.om_model.specs.declared.reply.Reply.TheVariants.{Miss}
 use Rattle.om_pages.specs.Tables.{kind_of}
 use Rattle.om_pages.specs.declared.kind.PageKind.{PageKind}
 use Rattle.om_pages.specs.declared.kind.PageKind.TheVariants.{Absent, Free, Chunk, Block, Guard}
 use Rattle.om_pool.specs.Tables.{Tables}
+use Rattle.om_pool.specs.declared.standing.Standing.{Standing}
+use Rattle.om_pool.specs.declared.standing.Standing.TheVariants.{NotHeld, FreePage, PageBlock, InPageBlock, OnGuard, LivePlace, DelayedPlace, FreePlace, Unaligned}
 
 -- ---- what stands at an address
 
@@ -22,14 +24,18 @@ at_place_of class address (Some has.Free) = FreePlace
 at_place_of class address (Some has.Delayed) = DelayedPlace (record { address = address; class = class })
 at_place_of class address (Some (has.Live size site)) = LivePlace (record { address = address; class = class }) (record { address = address; size = size; site = site })
 
+-- on a data page: the block's first byte, or another
+abbrev pub at_block_of : ℕ → Page → ℕ → Standing
+at_block_of address first pages =
+    if page_at address == first.0 && address_of (page_at address) == address then PageBlock first pages else InPageBlock
+
 abbrev pub standing_on : Tables → ℕ → PageKind → Standing
 standing_on tables address Absent = NotHeld
 standing_on tables address Free = FreePage
 standing_on tables address (Chunk class) = at_place_of class.0 address (place_in tables.chunks address)
-standing_on tables address (Block first pages) = InPageBlock
+standing_on tables address (Block first pages) = at_block_of address first pages
 standing_on tables address (Guard first) = OnGuard
 
--- no page block is served so far, so that none begins at an address
 abbrev pub standing_by : ℕ → Tables → ℕ → Standing
 standing_by zones tables address = if is_in_arena address zones then standing_on tables address (kind_of tables.pages (page_at address)) else NotHeld
 

@@ -1,12 +1,13 @@
--- A free, as the core makes it: its step, and what becomes of a place that left its slot.
+-- A free, as the core makes it: its step, and what becomes of a place that left its slot and of a run that became free.
 use Rattle.std.specs.Prelude.{◌≡◌, ℕ, ◌*◌, ◌<◌, ◌&&◌, Bool, true, false, if◌then◌else◌, Option, Some, None, IsSome}
 use Rattle.om_chunk.specs.Pages.{place_in}
-use Rattle.om_geom.specs.Addresses.{page_at}
+use Rattle.om_geom.specs.Addresses.{address_of, page_at}
 use Rattle.om_geom.specs.Numbers.{zone_pages, most_zones}
 use Rattle.om_pages.specs.Kinds.{is_held}
 use Rattle.om_pages.specs.Tables.{AreAll}
 use Rattle.om_model.specs.Pool.Free.{free}
 use Rattle.om_model.specs.Pool.Rules.{Rules}
+use Rattle.om_model.specs.Pool.Runs.{Run}
 use Rattle.om_model.specs.Pool.Standing.{LivePlace, standing}
 use Rattle.om_model.specs.declared.block.Block.{Block}
 use Rattle.om_model.specs.Pool.Steps.{Step}
@@ -16,11 +17,12 @@ use Rattle.om_model.specs.declared.operation.Op.TheVariants.{Free}
 use Rattle.om_model.specs.declared.operation.Who.{Who}
 use Rattle.om_model.specs.declared.reply.Reply.{Reply}
 use Rattle.om_broker.specs.declared.broker.Broker as broker
-use Rattle.om_pool.specs.Asking.{IsGiven}
+use Rattle.om_pool.specs.Asking.{one_page, IsGiven}
 use Rattle.om_pool.specs.CoreKept.{core_state, core_view}
 use Rattle.om_pool.specs.HoldingsView.{rules_in, tables_in, IsSameBut}
 use Rattle.om_pool.specs.PoolView.{Takes}
-use Rattle.om_pool.specs.TableSteps.{freed_place, gone_page, is_surplus_by, page_goes}
+use Rattle.om_pool.specs.Standing.{IsPageBlock}
+use Rattle.om_pool.specs.TableSteps.{freed_place, is_surplus_by, kept_or_gone, page_goes}
 use Rattle.om_pool.specs.Tables.{Tables}
 use Rattle.om_pool.specs.Chunks.{HoldsPage}
 use Rattle.om_pool.specs.declared.holdings.Holdings.{Holdings}
@@ -52,24 +54,38 @@ pub record IsThere (own : Holdings) (place : Place) : Type 0 where
 abbrev pub evicted_tables : Rules → Tables → ℕ → Tables
 evicted_tables rules tables address =
     let freed = freed_place tables address in
-    if page_goes tables address && is_surplus_by rules freed then gone_page freed (page_at address) else freed
+    if page_goes tables address then kept_or_gone rules freed (one_page (page_at address)) else freed
 
 -- whether its page is let go
 abbrev pub is_let_go : Rules → Tables → ℕ → Bool
 is_let_go rules tables address = page_goes tables address && is_surplus_by rules (freed_place tables address)
 
--- the page was given to the broker, or nothing was asked of it
-abbrev pub GivesTo : {B A : Type 0} → broker.Ghosts B A → B → B → ℕ → Bool → Option Move → Type 0
-GivesTo g before after page false release = (after ≡ before) × (release ≡ None)
-GivesTo g before after page true None = ⊥
-GivesTo g before after page true (Some move) = IsGiven g before after page move
+-- the run was given to the broker, or nothing was asked of it
+abbrev pub GivesTo : {B A : Type 0} → broker.Ghosts B A → B → B → Run → Bool → Option Move → Type 0
+GivesTo g before after run false release = (after ≡ before) × (release ≡ None)
+GivesTo g before after run true None = ⊥
+GivesTo g before after run true (Some move) = IsGiven g before after run move
+
+-- a run that became free is kept, or given to the broker where it is surplus
+pub record IsKeptOrGone {B A : Type 0} (g : broker.Ghosts B A) (old new : Core) (before after : B) (run : Run) (release : Option Move) : Type 0 where
+  pub tables : tables_in new.state ≡ kept_or_gone (rules_in old.state) (tables_in old.state) run
+  pub state : IsSameBut old.state new.state
+  pub broker : GivesTo g before after run (is_surplus_by (rules_in old.state) (tables_in old.state)) release
+  pub same : new ≡ record old { state = new.state }
 
 pub record IsEvicted {B A : Type 0} (g : broker.Ghosts B A) (old new : Core) (before after : B) (place : Place) (release : Option Move) : Type 0 where
   pub tables : tables_in new.state ≡ evicted_tables (rules_in old.state) (tables_in old.state) place.address
   pub state : IsSameBut old.state new.state
-  pub broker : GivesTo g before after (page_at place.address) (is_let_go (rules_in old.state) (tables_in old.state) place.address) release
+  pub broker : GivesTo g before after (one_page (page_at place.address)) (is_let_go (rules_in old.state) (tables_in old.state) place.address) release
   pub same : new ≡ record old { state = new.state }
 
 abbrev pub Evicts : {B A : Type 0} → broker.Ghosts B A → Core → Core → B → B → Option Place → Option Move → Type 0
 Evicts g old new before after None release = (new ≡ old) × (after ≡ before) × (release ≡ None)
 Evicts g old new before after (Some place) release = IsEvicted g old new before after place release
+
+-- ---- a page block
+
+-- a block of so many data pages begins at the address, the first of its page
+pub record IsBlockAt (core : Core) (address first pages : ℕ) : Type 0 where
+  pub here : address ≡ address_of first
+  pub block : IsPageBlock first pages (standing (rules_in core.state) (core_state core) address)

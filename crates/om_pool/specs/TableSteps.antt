@@ -10,15 +10,16 @@ use Rattle.om_frame.specs.Frames as frame_list
 use Rattle.om_frame.specs.Memory as frames
 use Rattle.om_frame.specs.Memory.{filled}
 use Rattle.om_geom.specs.declared.address.Extent.{Extent}
-use Rattle.om_model.specs.Pool.Junk.{extent_of_place, fresh_byte, freed_byte}
+use Rattle.om_model.specs.Pool.Junk.{extent_of_place, fresh_byte, freed_byte, freed_len}
 use Rattle.om_frame.specs.Frames.{zero_frames}
-use Rattle.om_geom.specs.Addresses.{page_at}
-use Rattle.om_geom.specs.Numbers.{most_zones, zone_pages}
+use Rattle.om_geom.specs.Addresses.{address_of, page_at}
+use Rattle.om_geom.specs.Numbers.{most_zones, page_size, zone_pages}
 use Rattle.om_model.specs.Pool.Rules.{Rules}
+use Rattle.om_model.specs.Pool.Runs.{Run}
 use Rattle.om_model.specs.declared.block.Place.{Place}
 use Rattle.om_pages.specs.FreeRuns.{lowest_run}
 use Rattle.om_pages.specs.Kinds.{is_held}
-use Rattle.om_pages.specs.Tables.{free_count, kind_of, with_run}
+use Rattle.om_pages.specs.Tables.{free_count, kind_of, with_block, with_run}
 use Rattle.om_pages.specs.declared.kind.PageKind.{PageKind}
 use Rattle.om_pages.specs.declared.kind.PageKind.TheVariants.{Absent, Free, Chunk}
 use Rattle.om_pool.specs.Tables.{Tables}
@@ -27,13 +28,17 @@ use Rattle.om_pool.specs.Tables.{Tables}
 abbrev pub fresh_page : Tables → ℕ → ℕ → Tables
 fresh_page tables page class = record (record tables { pages = with_run tables.pages page 1 (Chunk (record { 0 = class })) }) { chunks = with_page tables.chunks page class }
 
--- a page comes, with zeros
-abbrev pub claimed_page : Tables → ℕ → Tables
-claimed_page tables page = record (record tables { pages = with_run tables.pages page 1 Free }) { memory = frame_list.with_frames tables.memory (zero_frames page 1) }
+-- pages come, with zeros
+abbrev pub claimed_run : Tables → Run → Tables
+claimed_run tables run = record (record tables { pages = with_run tables.pages run.first run.count Free }) { memory = frame_list.with_frames tables.memory (zero_frames run.first run.count) }
 
--- a free page leaves
-abbrev pub gone_page : Tables → ℕ → Tables
-gone_page tables page = record (record tables { pages = with_run tables.pages page 1 Absent }) { memory = frame_list.without_pages tables.memory page 1 }
+-- free pages leave
+abbrev pub gone_run : Tables → Run → Tables
+gone_run tables run = record (record tables { pages = with_run tables.pages run.first run.count Absent }) { memory = frame_list.without_pages tables.memory run.first run.count }
+
+-- pages become free
+abbrev pub freed_run : Tables → Run → Tables
+freed_run tables run = record tables { pages = with_run tables.pages run.first run.count Free }
 
 -- a place gets a block
 abbrev pub live_place : Tables → ℕ → ℕ → ℕ → Tables
@@ -56,17 +61,27 @@ delayed_place tables slot place = record (record tables { chunks = with_place ta
 abbrev pub is_surplus_by : Rules → Tables → Bool
 is_surplus_by rules tables = not (nat_le (free_count tables.pages) rules.options.cache)
 
+-- the run became free: it leaves where it is surplus
+abbrev pub kept_or_gone : Rules → Tables → Run → Tables
+kept_or_gone rules tables run = if is_surplus_by rules tables then gone_run tables run else tables
+
 -- ---- bytes
 
 abbrev pub filled_by : ℕ → Extent → Tables → Tables
 filled_by byte extent tables = record tables { memory = filled tables.memory extent.first extent.len byte }
 
--- a fresh place is filled at junk level 2, and a freed one at levels 1 and 2
-abbrev pub fresh_filled : Rules → Place → Tables → Tables
-fresh_filled rules place tables = if rules.options.junk == 2 then filled_by fresh_byte (extent_of_place place) tables else tables
+-- the bytes of a new block are filled at junk level 2
+abbrev pub fresh_filled : Rules → Extent → Tables → Tables
+fresh_filled rules extent tables = if rules.options.junk == 2 then filled_by fresh_byte extent tables else tables
 
+-- a freed place is filled at levels 1 and 2
 abbrev pub freed_filled : Rules → Place → Tables → Tables
 freed_filled rules place tables = if rules.options.junk == 1 || rules.options.junk == 2 then filled_by freed_byte (extent_of_place place) tables else tables
+
+-- the first bytes of a freed block of so many data pages at level 1, and all of them at level 2
+abbrev pub freed_pages_filled : Rules → ℕ → ℕ → Tables → Tables
+freed_pages_filled rules first pages tables =
+    filled_by freed_byte (record { first = address_of first; len = freed_len rules.options.junk pages }) tables
 
 -- ---- the place that the pool itself has
 
@@ -93,7 +108,17 @@ OwnPlace old new class first second result = OwnBy old new class second result (
 
 -- a block on a place, which is filled by the junk level
 abbrev pub settled : Rules → Tables → ℕ → ℕ → ℕ → ℕ → Tables
-settled rules tables address class size site = fresh_filled rules (record { address = address; class = class }) (live_place tables address size site)
+settled rules tables address class size site =
+    fresh_filled rules (extent_of_place (record { address = address; class = class })) (live_place tables address size site)
+
+-- the bytes of so many data pages
+abbrev pub pages_of_block : ℕ → ℕ → Extent
+pages_of_block first pages = record { first = address_of first; len = page_size * pages }
+
+-- a block of so many data pages on held pages, with the guard where guards are on; its bytes are filled by the junk level
+abbrev pub block_on_pages : Rules → Tables → ℕ → ℕ → Tables
+block_on_pages rules tables first pages =
+    fresh_filled rules (pages_of_block first pages) (record tables { pages = with_block tables.pages first pages rules.options.guard })
 
 -- ---- tables that agree with each other
 

@@ -85,8 +85,8 @@ impl Holdings {
         }
     }
 
-    // The same of an address on a page of the kind. No byte of blocks of size 0 can be touched, nor one of a
-    // free page where unmap is on.
+    // The same of an address on a page of the kind. No byte of blocks of size 0 or of a guard can be touched,
+    // nor one of a free page where unmap is on.
     fn bar_on(&self, kind: PageKind) -> Option<Reply>
         ensures { result ≡ barred_on (rules_in self.now) kind }
     {

@@ -3,7 +3,6 @@ ghost use Rattle.std.specs.Prelude.{◌≡◌, ◌*◌, ◌-◌, ◌^◌, ◌<�
 ghost use Rattle.om_geom.specs.Numbers.{most_zones, zone_pages};
 ghost use Rattle.om_model.specs.Pool.Access.{load, store};
 ghost use Rattle.om_model.specs.Pool.Free.{free};
-ghost use Rattle.om_model.specs.Pool.Journal.{is_served};
 ghost use Rattle.om_model.specs.Pool.Malloc.{malloc};
 ghost use Rattle.om_model.specs.Pool.Rules.{canary_byte};
 ghost use Rattle.om_model.specs.Pool.State.{opening};
@@ -86,12 +85,11 @@ impl<B: Broker> Pool<B> {
         self.core.reserve()
     }
 
-    /// Allocates `size` bytes, as malloc(3): a block's address, or null.
+    /// Allocates `size` bytes, as malloc(3): a block's address, or null, or the fault in its place.
     pub fn malloc<R: Wait>(&mut self, rt: &R, who: Who, size: u64, site: u64) -> Reply
         requires room { 1 ≤ self.old.spare }
         requires short { length self.old.journal.items < 2 ^ 32 - 1 }
         requires own { who.hop ≡ 0 }
-        requires served { IsTrue (is_served self.old.rules size) }
         requires moves { 66 ≤ B.moves_left self.old.broker }
         ensures taken { Takes self.old self.new who (Op.Malloc size site) result
             (λ answers. malloc self.old.rules self.old.state size site answers.claim) }
@@ -104,9 +102,9 @@ impl<B: Broker> Pool<B> {
         self.core.malloc(rt, &mut self.broker, who, size, site)
     }
 
-    /// Frees an address, as free(3): a place is delayed in the slot that a word chooses, and a page
-    /// that no place needs any more stays, or is released where more pages are free than the pool
-    /// keeps.
+    /// Frees an address, as free(3): a place is delayed in the slot that a word chooses, and the pages
+    /// of a page block become free at once. Pages that become free stay, or are released as one where
+    /// more pages are free than the pool keeps.
     pub fn free<R: Wait>(&mut self, rt: &R, who: Who, addr: Addr) -> Reply
         requires room { 1 ≤ self.old.spare }
         requires short { length self.old.journal.items < 2 ^ 32 - 1 }
@@ -122,7 +120,7 @@ impl<B: Broker> Pool<B> {
     }
 
     /// Reads the byte at an address, be it in a block, between blocks, freed or on a free page. No
-    /// byte of a block of size 0 can be read, nor one of a free page under unmap.
+    /// byte of a block of size 0 or of a guard can be read, nor one of a free page under unmap.
     pub fn load(&mut self, who: Who, addr: Addr) -> Reply
         requires room { 1 ≤ self.old.spare }
         requires short { length self.old.journal.items < 2 ^ 32 - 1 }

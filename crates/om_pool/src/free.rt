@@ -1,13 +1,16 @@
 //! Free of an address, by what stands there.
 ghost use Rattle.std.specs.Prelude.{◌≡◌, ◌+◌, ◌-◌, ◌*◌, ◌%◌, ◌^◌, ◌<◌, ◌≤◌, ◌&&◌, ◌||◌, [], ◌∷◌, ◌++◌, None, length, IfSome, true, false, if◌then◌else◌};
 ghost use Rattle.om_broker.specs.Claims.{HasFrames};
-ghost use Rattle.om_frame.specs.Frames.{zero_frames};
-ghost use Rattle.om_geom.specs.Addresses.{page_at};
+ghost use Rattle.om_frame.specs.Frames.{zero_frames, AreHeld};
+ghost use Rattle.om_geom.specs.Addresses.{bit_of, page_at};
+ghost use Rattle.om_geom.specs.Numbers.{zone_pages};
 ghost use Rattle.om_model.specs.Pool.Free.{freed_again, slot_holds};
 ghost use Rattle.om_model.specs.Pool.Steps.{unchanged};
 ghost use Rattle.om_model.specs.declared.entry.Entry.TheVariants.{Call};
 ghost use Rattle.om_pool.specs.CoreKept.{core_state, view_of, IsBackedCore, IsCore, HasRoom};
-ghost use Rattle.om_pool.specs.Free.{FreeIs, Frees, Evicts, IsLiveAt, IsThere};
+ghost use Rattle.om_pages.specs.Kinds.{is_free};
+ghost use Rattle.om_pages.specs.Tables.{AreAll};
+ghost use Rattle.om_pool.specs.Free.{FreeIs, Frees, Evicts, IsBlockAt, IsKeptOrGone, IsLiveAt, IsThere};
 ghost use Rattle.om_pool.specs.HoldingsView.{rules_in};
 ghost use Rattle.om_pool.specs.PoolView.{says_no_run, UsesBroker};
 ghost use Rattle.om_pool.specs.Unasked.{unasked_entry, IsQuiet};
@@ -16,6 +19,7 @@ use crate::holdings::{page_at, slot_at, slot_holds};
 use crate::pool_core::Core;
 use crate::standing::Standing;
 use om_broker::Broker;
+use om_geom::Page;
 use om_model::{Drawn, Fault, Move, Op, Place, Reply, SLOT_COUNT, Who};
 use std::sync::Wait;
 
@@ -39,6 +43,9 @@ impl Core {
     {
         match self.state.standing(address) {
             Standing::NotHeld => self.answer(who, address, Reply::Miss),
+            Standing::PageBlock { first, pages } => {
+                self.free_block(rt, broker, who, address, first, pages)
+            }
             Standing::FreePage | Standing::InPageBlock | Standing::OnGuard => {
                 self.answer(who, address, Reply::Fault(Fault::Bogus))
             }
@@ -122,11 +129,61 @@ impl Core {
         ensures { Evicts B.Broker self.old self.new broker.old broker.new before result }
     {
         let place = before?;
-        if self.state.set_free(place.address) && self.state.is_surplus() {
-            let frames = self.state.leave(page_at(place.address) as u32);
-            return Some(broker.release(rt, frames));
+        if !self.state.set_free(place.address) {
+            return None;
         }
-        None
+        self.keep_or_release(rt, broker, Page(page_at(place.address) as u32), 1)
+    }
+
+    // The pages of a page block become free, with its guard. Where they are surplus they are let go.
+    fn free_block<R: Wait, B: Broker>(
+        &mut self,
+        rt: &R,
+        broker: &mut B,
+        who: Who,
+        address: u64,
+        first: Page,
+        pages: u32,
+    ) -> Reply
+        requires kept { IsCore self.old }
+        requires backed { IsBackedCore B.Broker self.old broker.old }
+        requires room { HasRoom self.old }
+        requires block { IsBlockAt self.old address first.0 pages }
+        ensures kept { IsCore self.new }
+        ensures backed { IsBackedCore B.Broker self.new broker.new }
+        ensures uses { UsesBroker B.Broker (view_of self.old broker.old)
+            (view_of self.new broker.new) result }
+        ensures taken { Frees self.old self.new who address result }
+    {
+        let n = self.state.with_guard(pages);
+        self.state.fill_freed_pages(first, pages);
+        self.state.free_pages(first, n);
+        let release = self.keep_or_release(rt, broker, first, n);
+        self.enter_free(who, address, Reply::Done, Drawn::empty(), release);
+        Reply::Done
+    }
+
+    // Pages became free. They stay, or are let go where they are surplus.
+    fn keep_or_release<R: Wait, B: Broker>(
+        &mut self,
+        rt: &R,
+        broker: &mut B,
+        first: Page,
+        n: u32,
+    ) -> Option<Move>
+        requires some { 1 ≤ n }
+        requires one_zone { bit_of first.0 + n ≤ zone_pages }
+        requires free { AreAll is_free self.old.state.pages first.0 n }
+        requires held { AreHeld self.old.state.shelf first.0 n }
+        requires has { HasFrames (B.made broker.old) (zero_frames first.0 n) }
+        ensures { IsKeptOrGone B.Broker self.old self.new broker.old broker.new
+            (record { first = first.0; count = n }) result }
+    {
+        if !self.state.is_surplus() {
+            return None;
+        }
+        let frames = self.state.leave(first, n);
+        Some(broker.release(rt, frames))
     }
 
     fn enter_free(

@@ -2,7 +2,7 @@
 ghost use Rattle.std.specs.Prelude.{◌≡◌, ◌+◌, ◌*◌, ◌<◌, ◌≤◌, ◌^◌, true, IsTrue, IsSome, IfSome, length, replicate, Some, None, OnOk, IfOk, slice_index_or};
 ghost use Rattle.om_chunk.specs.Pages as chunks;
 ghost use Rattle.om_chunk.specs.Picks.{place_on, IsFreeOn};
-ghost use Rattle.om_frame.specs.Frames.{zero_frames};
+ghost use Rattle.om_frame.specs.Frames.{zero_frames, AreHeld};
 ghost use Rattle.om_frame.specs.Memory.{no_pages};
 ghost use Rattle.om_geom.specs.Addresses.{page_at};
 ghost use Rattle.om_geom.specs.Classes.{is_class, places_of};
@@ -13,11 +13,12 @@ ghost use Rattle.om_model.specs.Pool.Rules.{word_at};
 ghost use Rattle.om_pages.specs.FreeRuns.{lowest_run};
 ghost use Rattle.om_model.specs.Pool.State.{slot_count};
 ghost use Rattle.om_pages.specs.Kinds.{is_absent, is_free, is_held};
-ghost use Rattle.om_pages.specs.Tables as pages;
-ghost use Rattle.om_pool.specs.Chunks.{HoldsPage};
+ghost use Rattle.om_pages.specs.Tables as table;
+ghost use Rattle.om_pool.specs.Asking.{one_page};
 ghost use Rattle.om_pool.specs.HoldingsView.{rules_in, tables_in, with_drawn, IsSameBut};
+ghost use Rattle.om_pool.specs.Malloc.{TakesRun};
 ghost use Rattle.om_pool.specs.PoolView.{rules_by};
-ghost use Rattle.om_pool.specs.TableSteps.{claimed_page, delayed_place, fresh_page, freed_place, gone_page, is_surplus_by, live_place, page_goes, FreshPlace, IsTied, OwnPlace};
+ghost use Rattle.om_pool.specs.TableSteps.{claimed_run, delayed_place, fresh_page, freed_place, freed_run, gone_run, is_surplus_by, live_place, page_goes, FreshPlace, IsTied, OwnPlace};
 
 use om_chunk::{ChunkPages, Picked};
 use om_frame::{Bundle, Shelf};
@@ -53,7 +54,7 @@ impl Holdings {
         requires few_zones { zones ≤ most_zones }
         ensures rules { IfOk result (λ own. rules_in own ≡ rules_by opts zones words.source) }
         ensures zones { IfOk result (λ own. own.zones ≡ zones) }
-        ensures pages { IfOk result (λ own. own.pages ≡ pages.no_pages zones) }
+        ensures pages { IfOk result (λ own. own.pages ≡ table.no_pages zones) }
         ensures chunks { IfOk result (λ own. own.chunks.pages ≡ chunks.no_pages zones) }
         ensures slots { IfOk result (λ own. own.slots ≡ replicate slot_count None) }
         ensures drawn { IfOk result (λ own. own.words.place ≡ words.place) }
@@ -134,26 +135,38 @@ impl Holdings {
         requires class { IsTrue (is_class class.0) }
         requires room { 1 ≤ self.old.chunks.spare }
         requires tied { IsTied self.old.zones (tables_in self.old) }
-        requires there { page.0 < zone_pages * self.old.zones }
-        requires new { is_absent (pages.kind_of self.old.pages page.0) ≡ true }
+        requires new { table.AreAll is_absent self.old.pages page.0 1 }
         requires frames { frames ≡ zero_frames page.0 1 }
         ensures tables { tables_in self.new
-            ≡ fresh_page (claimed_page (tables_in self.old) page.0) page.0 class.0 }
+            ≡ fresh_page (claimed_run (tables_in self.old) (one_page page.0)) page.0 class.0 }
         ensures page { result.page ≡ page }
         ensures place { place_on self.new.chunks.pages page.0 word ≡ Some result.place }
         ensures free { IsFreeOn self.new.chunks.pages class.0 page.0 result.place }
         ensures same { IsSameBut self.old self.new }
     {
-        self.pages.add_run(page, 1);
-        self.shelf.add(frames);
+        self.add_pages(page, 1, frames);
         self.open_page(page, class, word)
+    }
+
+    /// Takes claimed pages, whose frames come with them. They are free then.
+    pub(crate) fn add_pages(&mut self, first: Page, n: u32, frames: Bundle)
+        requires tied { IsTied self.old.zones (tables_in self.old) }
+        requires new { table.AreAll is_absent self.old.pages first.0 n }
+        requires frames { frames ≡ zero_frames first.0 n }
+        ensures tables { tables_in self.new
+            ≡ claimed_run (tables_in self.old) (record { first = first.0; count = n }) }
+        ensures chunks { self.new.chunks ≡ self.old.chunks }
+        ensures same { IsSameBut self.old self.new }
+    {
+        self.pages.add_run(first, n);
+        self.shelf.add(frames);
     }
 
     // Makes a held page on which nothing lies a chunk page, and picks a place there.
     fn open_page(&mut self, page: Page, class: Class, word: u32) -> Picked
         requires class { IsTrue (is_class class.0) }
         requires room { 1 ≤ self.old.chunks.spare }
-        requires held { pages.AreAll is_held self.old.pages page.0 1 }
+        requires held { table.AreAll is_held self.old.pages page.0 1 }
         requires there { page.0 < length self.old.chunks.pages }
         requires none { chunks.page_in self.old.chunks.pages page.0 ≡ None }
         ensures tables { tables_in self.new ≡ fresh_page (tables_in self.old) page.0 class.0 }
@@ -166,6 +179,45 @@ impl Holdings {
         self.chunks.add_page(page, class);
         let place = self.chunks.pick_on(page, word);
         Picked { page, place }
+    }
+
+    /// The lowest run of `n` free pages that the pool itself has. It is marked as taken.
+    pub(crate) fn own_run(&mut self, n: u32) -> Option<Page>
+        requires some { 1 ≤ n }
+        ensures found { TakesRun (tables_in self.old) (tables_in self.new) n result }
+        ensures same { IsSameBut self.old self.new }
+    {
+        self.pages.take_run(n)
+    }
+
+    /// How many pages a block of so many data pages has, with its guard where guards are on.
+    pub(crate) fn with_guard(&self, pages: u32) -> u32
+        requires { pages ≤ zone_pages }
+        ensures { result ≡ table.block_pages pages self.now.opts.guard }
+    {
+        if self.opts.guard { pages + 1 } else { pages }
+    }
+
+    /// Makes held pages those of a block of so many data pages, with its guard where guards are on.
+    pub(crate) fn set_block(&mut self, first: Page, pages: u32)
+        requires held { table.AreAll is_held self.old.pages first.0
+            (table.block_pages pages self.old.opts.guard) }
+        ensures tables { tables_in self.new ≡ record (tables_in self.old) {
+          pages = table.with_block self.old.pages first.0 pages self.old.opts.guard;
+        } }
+        ensures same { IsSameBut self.old self.new }
+    {
+        self.pages.set_block(first, pages, self.opts.guard);
+    }
+
+    /// Makes held pages free.
+    pub(crate) fn free_pages(&mut self, first: Page, n: u32)
+        requires held { table.AreAll is_held self.old.pages first.0 n }
+        ensures tables { tables_in self.new
+            ≡ freed_run (tables_in self.old) (record { first = first.0; count = n }) }
+        ensures same { IsSameBut self.old self.new }
+    {
+        self.pages.give_run(first, n);
     }
 
     /// Puts a block on the place that was picked. Gives its address.
@@ -199,7 +251,7 @@ impl Holdings {
     /// Makes a place free, and its page where it was the last one there. Whether it was.
     pub(crate) fn set_free(&mut self, address: u64) -> bool
         requires place { IsSome (chunks.place_in self.old.chunks.pages address) }
-        requires held { pages.AreAll is_held self.old.pages (page_at address) 1 }
+        requires held { table.AreAll is_held self.old.pages (page_at address) 1 }
         requires low { page_at address < zone_pages * most_zones }
         ensures goes { result ≡ page_goes (tables_in self.old) address }
         ensures tables { tables_in self.new ≡ freed_place (tables_in self.old) address }
@@ -219,16 +271,18 @@ impl Holdings {
         self.pages.free_count() > self.opts.cache
     }
 
-    /// Takes a free page out, and gives its frame.
-    pub(crate) fn leave(&mut self, page: u32) -> Bundle
-        requires free { pages.AreAll is_free self.old.pages page 1 }
-        requires held { HoldsPage self.old.shelf page }
-        ensures frames { result ≡ zero_frames page 1 }
-        ensures tables { tables_in self.new ≡ gone_page (tables_in self.old) page }
+    /// Takes free pages out, and gives their frames.
+    pub(crate) fn leave(&mut self, first: Page, n: u32) -> Bundle
+        requires few { n ≤ zone_pages }
+        requires free { table.AreAll is_free self.old.pages first.0 n }
+        requires held { AreHeld self.old.shelf first.0 n }
+        ensures frames { result ≡ zero_frames first.0 n }
+        ensures tables { tables_in self.new
+            ≡ gone_run (tables_in self.old) (record { first = first.0; count = n }) }
         ensures same { IsSameBut self.old self.new }
     {
-        self.pages.drop_run(Page(page), 1);
-        self.shelf.remove(Page(page), 1)
+        self.pages.drop_run(first, n);
+        self.shelf.remove(first, n)
     }
 }
 

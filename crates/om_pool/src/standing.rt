@@ -1,25 +1,26 @@
 //! What stands at an address.
-ghost use Rattle.std.specs.Prelude.{◌≡◌, ◌≤◌, IsSome};
+ghost use Rattle.std.specs.Prelude.{◌≡◌, ◌*◌, ◌<◌, ◌≤◌, IsSome};
 ghost use Rattle.om_chunk.specs.Pages.{page_with, place_in};
 ghost use Rattle.om_geom.specs.Addresses.{page_at};
-ghost use Rattle.om_geom.specs.Numbers.{first_address};
+ghost use Rattle.om_geom.specs.Numbers.{first_address, most_zones, zone_pages};
 ghost use Rattle.om_pages.specs.Tables.{kind_of};
-ghost use Rattle.om_pool.specs.ByTables.{at_place_of, standing_by, standing_on};
+ghost use Rattle.om_pool.specs.ByTables.{at_block_of, at_place_of, standing_by, standing_on};
 ghost use Rattle.om_pool.specs.HoldingsView.{tables_in};
-ghost use Rattle.om_pool.specs.Standing.{standing_of};
 ghost use Rattle.om_pool.specs.TableSteps.{IsTied};
 
 use crate::holdings::Holdings;
 use om_chunk::PlaceState;
-use om_geom::{Addr, Class, Page, page_of};
+use om_geom::{Addr, Class, Page, addr_of, page_of};
 use om_model::{Block, Place};
 use om_pages::PageKind;
 
-/// What stands at an address. On a chunk page it is the first byte of a place, or another byte.
+/// What stands at an address. On a chunk page it is the first byte of a place, or another byte. A page block
+/// begins at the first byte of its first page.
 #[derive(Clone, Copy)]
 pub(crate) enum Standing {
     NotHeld,
     FreePage,
+    PageBlock { first: Page, pages: u32 },
     InPageBlock,
     OnGuard,
     LivePlace { place: Place, block: Block },
@@ -32,7 +33,7 @@ impl Holdings {
     /// What stands at the address.
     pub(crate) fn standing(&self, address: u64) -> Standing
         requires { IsTied self.now.zones (tables_in self.now) }
-        ensures { standing_of result ≡ standing_by self.now.zones (tables_in self.now) address }
+        ensures { result ≡ standing_by self.now.zones (tables_in self.now) address }
     {
         match page_of(Addr(address), self.zones) {
             Some(page) => self.standing_on(address, page),
@@ -45,14 +46,15 @@ impl Holdings {
         requires tied { IsTied self.now.zones (tables_in self.now) }
         requires low { first_address ≤ address }
         requires page { page.0 ≡ page_at address }
-        ensures { standing_of result
+        requires there { page.0 < zone_pages * most_zones }
+        ensures { result
             ≡ standing_on (tables_in self.now) address (kind_of self.now.pages page.0) }
     {
         match self.pages.find(page) {
             PageKind::Absent => Standing::NotHeld,
             PageKind::Free => Standing::FreePage,
             PageKind::Chunk(class) => self.at_place(address, class),
-            PageKind::Block { .. } => Standing::InPageBlock,
+            PageKind::Block { first, pages } => at_block(address, page, first, pages),
             PageKind::Guard { .. } => Standing::OnGuard,
         }
     }
@@ -60,7 +62,7 @@ impl Holdings {
     // The address is on a chunk page of the class.
     fn at_place(&self, address: u64, class: Class) -> Standing
         requires { IsSome (page_with self.now.chunks.pages address) }
-        ensures { standing_of result
+        ensures { result
             ≡ at_place_of class.0 address (place_in self.now.chunks.pages address) }
     {
         let class = class.0;
@@ -78,5 +80,18 @@ impl Holdings {
             PlaceState::Free => Standing::FreePlace,
             PlaceState::Unaligned => Standing::Unaligned,
         }
+    }
+}
+
+// The address is on a data page of the block.
+fn at_block(address: u64, page: Page, first: Page, pages: u32) -> Standing
+    requires page { page.0 ≡ page_at address }
+    requires there { page.0 < zone_pages * most_zones }
+    ensures { result ≡ at_block_of address first pages }
+{
+    if page == first && addr_of(page).0 == address {
+        Standing::PageBlock { first, pages }
+    } else {
+        Standing::InPageBlock
     }
 }

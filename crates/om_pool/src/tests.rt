@@ -1,5 +1,6 @@
 ghost use Rattle.std.specs.Prelude.{◌≤◌};
 
+mod blocks;
 mod judges;
 mod lawful;
 mod trial;

@@ -77,7 +77,8 @@ fn add<R: Wait>(
     requires left { 0 < pass.old.left }
     ensures left { pass.new.left + 1 ≡ pass.old.left }
     ensures part { IsSamePart lock.now pass.old pass.new }
-    ensures held { IfOk result (λ k. (view pass.new).held ≡ (view pass.old).held ++ (k, x) ∷ []) }
+    ensures held { IfOk result (λ k.
+        (view pass.new).held ≡ (view pass.old).held ++ (k, x) ∷ []) }
 {
     let mut held = lock.enter(rt, pass);
     let place = held.state().len();

@@ -126,7 +126,8 @@ impl<S: Journaled> TurnLock<S> {
     fn pass_on_some<O: Origin<S>>(&self, seat: &mut Chair<S>)
         requires seat { IsSeatOf self.now seat.old × (O.origin ≡ Some (first_state self.now)) }
         requires served { seat.old.me.0.stage ≡ Served }
-        requires lawful { (x : S) × (added : Option S.Entry) × (seat.old.me.1 ≡ (0, Some x) ∷ [])
+        requires lawful { (x : S) × (added : Option S.Entry)
+            × (seat.old.me.1 ≡ (0, Some x) ∷ [])
             × MayLeaveAt S.Journaled self.now seat.old.me.0 x added }
         ensures seat { (seat.new.table_id ≡ seat.old.table_id) × (seat.new.id ≡ seat.old.id) }
         ensures passed { (x : S) → seat.old.me.1 ≡ (0, Some x) ∷ []

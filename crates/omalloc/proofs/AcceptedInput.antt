@@ -12,10 +12,9 @@ use Rattle.omalloc.specs.declared.command.Command.{Command}
 use Rattle.omalloc.specs.declared.command.Command.TheVariants.{Malloc, Free, Load, Store}
 use Rattle.omalloc.specs.declared.script.Request.{Request}
 use Rattle.omalloc.specs.declared.script.Request.TheVariants as request
-use Rattle.omalloc.specs.Script.{ScriptText, most_commands, most_names, greatest_offset, greatest_byte, IsCommand, IsScript}
-use Rattle.om_geom.specs.Numbers.{largest_class}
+use Rattle.omalloc.specs.Script.{ScriptText, most_commands, most_names, IsCommand, IsScript}
 use Rattle.om_model.specs.Scripts.Names.{is_digit, is_name}
-use Rattle.omalloc.specs.AcceptedInput.{number_of, number_to, only_number, free_of, store_of, asked_of, title_of, request_of, command_of, place_of, with_name, with_command, with_line, ended, script_from, titled, script_of_lines, script_of, text_lines, fields_of}
+use Rattle.omalloc.specs.AcceptedInput.{number_of, number_to, title_of, request_of, command_of, place_of, with_name, with_command, with_line, ended, script_from, titled, script_of_lines, script_of, text_lines, fields_of}
 
 and_front : (a b : Bool) → (a && b) ≡ true → a ≡ true
 and_front true b e = refl
@@ -25,83 +24,24 @@ and_back : (a b : Bool) → (a && b) ≡ true → b ≡ true
 and_back true b e = e
 and_back false b e = cc
 
-abbrev IsSized : Request → Type 0
-IsSized (request.Malloc size) = size ≤ largest_class
-IsSized other = Unit {0}
-
-number_small : (greatest : ℕ) (field : List ℕ) (n : ℕ) → number_to greatest field ≡ Some n → n ≤ greatest
+-- a number is at most the greatest of its kind
+pub number_small : (greatest : ℕ) (field : List ℕ) (n : ℕ) → number_to greatest field ≡ Some n → n ≤ greatest
 number_small greatest field n e =
     let found = cond_some (leb 1 (length field) && list_all is_digit field && leb (number_of field) greatest) (number_of field) n e in
     subst (λ k. k ≤ greatest) found.1
     (leb-true (number_of field) greatest (and_back (leb 1 (length field) && list_all is_digit field) (leb (number_of field) greatest) found.0))
 
-only_small : (greatest : ℕ) (fields : List (List ℕ)) (n : ℕ) → only_number greatest fields ≡ Some n → n ≤ greatest
-only_small greatest [] n e = cc
-only_small greatest (field ∷ []) n e = number_small greatest field n e
-only_small greatest (field ∷ more ∷ fields) n e = cc
-
-some_is : {A : Type 0} (x y : A) → Some x ≡ Some y → x ≡ y
-some_is x y e = cc
-
-malloc_size : (number : Option ℕ) (size : ℕ) → option_map request.Malloc number ≡ Some (request.Malloc size) → number ≡ Some size
-malloc_size (Some n) size e = cc
-malloc_size None size e = cc
-
--- no other keyword asks for a block
-free_other : (fields : List (List ℕ)) (size : ℕ) → free_of fields ≡ Some (request.Malloc size) → ⊥
-free_other [] size e = cc
-free_other (field ∷ fields) size e = cc
-
-load_other : (number : Option ℕ) (size : ℕ) → option_map request.Load number ≡ Some (request.Malloc size) → ⊥
-load_other (Some n) size e = cc
-load_other None size e = cc
-
-store_other : (fields : List (List ℕ)) (size : ℕ) → store_of fields ≡ Some (request.Malloc size) → ⊥
-store_other [] size e = cc
-store_other (off ∷ fields) size e = by (number_to greatest_offset off) (only_number greatest_byte fields) e
-  where
-    by : (at byte : Option ℕ) → option_and_then (λ a. option_map (request.Store a) byte) at ≡ Some (request.Malloc size) → ⊥
-    by (Some a) (Some b) same = cc
-    by (Some a) None same = cc
-    by None byte same = cc
-
-asked_sized : (keyword : List ℕ) (fields : List (List ℕ)) (r : Request) → asked_of keyword fields ≡ Some r → IsSized r
-asked_sized keyword fields (request.Malloc size) e =
-    by (bytes_eq keyword (codes "malloc")) (bytes_eq keyword (codes "free")) (bytes_eq keyword (codes "load")) (bytes_eq keyword (codes "store")) e
-  where
-    by : (malloc free load store : Bool) → cond malloc (option_map request.Malloc (only_number largest_class fields)) (cond free (free_of fields)
-        (cond load (option_map request.Load (only_number greatest_offset fields)) (cond store (store_of fields) None))) ≡ Some (request.Malloc size) → size ≤ largest_class
-    by true free load store same = only_small largest_class fields size (malloc_size (only_number largest_class fields) size same)
-    by false true load store same = absurd (free_other fields size same)
-    by false false true store same = absurd (load_other (only_number greatest_offset fields) size same)
-    by false false false true same = absurd (store_other fields size same)
-    by false false false false same = cc
-asked_sized keyword fields request.Free e = tt
-asked_sized keyword fields (request.Load off) e = tt
-asked_sized keyword fields (request.Store off byte) e = tt
-
-named_sized : (named : Bool) (name : List ℕ) (asked : Option Request) (r : List ℕ × Request) → ((q : Request) → asked ≡ Some q → IsSized q)
-    → cond named (option_map (λ q. (name, q)) asked) None ≡ Some r → IsSized r.1
-named_sized true name (Some q) r sized e = subst (λ (p : List ℕ × Request). IsSized p.1) (some_is (name, q) r e) (sized q refl)
-named_sized true name None r sized e = cc
-named_sized false name asked r sized e = cc
-
-request_sized : (words : List (List ℕ)) (r : List ℕ × Request) → request_of words ≡ Some r → IsSized r.1
-request_sized [] r e = cc
-request_sized (k ∷ []) r e = cc
-request_sized (k ∷ n ∷ fields) r e = named_sized (is_name n) n (asked_of k fields) r (asked_sized k fields) e
-
 more_variables : (n m : ℕ) → n ≤ m → (c : Command) → IsCommand n c → IsCommand m c
-more_variables n m l (Malloc var size site) is = (omega arith, is.1, is.2)
+more_variables n m l (Malloc var size site) is = (omega arith, is.1)
 more_variables n m l (Free var) is = omega arith
 more_variables n m l (Load var off) is = omega arith
 more_variables n m l (Store var off byte) is = omega arith
 
-sized_command : (n var : ℕ) (r : Request) → var < n → IsSized r → IsCommand n (command_of var r)
-sized_command n var (request.Malloc size) l sized = (l, sized, refl)
-sized_command n var request.Free l sized = l
-sized_command n var (request.Load off) l sized = l
-sized_command n var (request.Store off byte) l sized = l
+stands : (n var : ℕ) (r : Request) → var < n → IsCommand n (command_of var r)
+stands n var (request.Malloc size) l = (l, refl)
+stands n var request.Free l = l
+stands n var (request.Load off) l = l
+stands n var (request.Store off byte) l = l
 
 place_le : (names : List (List ℕ)) (name : List ℕ) → place_of names name ≤ length names
 place_le names name = prefix_len-le-length _ names
@@ -114,8 +54,8 @@ names_grow false names name = omega arith
 place_stands : (place : ℕ) (names : List (List ℕ)) (name : List ℕ) → place ≤ length names → place < length (cond (eqb place (length names)) (names ++ name ∷ []) names)
 place_stands place names name l = grind (arith, nat_tests, common_steps)
 
-with_command_keeps : (s : ScriptText) (r : List ℕ × Request) (t : ScriptText) → with_command s r ≡ Some t → IsSized r.1 → IsScript s → IsScript t
-with_command_keeps s r t e sized is =
+with_command_keeps : (s : ScriptText) (r : List ℕ × Request) (t : ScriptText) → with_command s r ≡ Some t → IsScript s → IsScript t
+with_command_keeps s r t e is =
     let names : List (List ℕ) = with_name s.names r.0 in
     let grown : length s.names ≤ length names = names_grow (eqb (place_of s.names r.0) (length s.names)) s.names r.0 in
     let found = cond_some (ltb (length s.commands) most_commands && leb (length names) most_names) _ t e in
@@ -128,12 +68,12 @@ with_command_keeps s r t e sized is =
       few_names = few;
       each = All-push (IsCommand (length names)) s.commands (command_of (place_of s.names r.0) r.1)
           (All-weaker (IsCommand (length s.names)) (IsCommand (length names)) (more_variables (length s.names) (length names) grown) s.commands is.each)
-          (sized_command (length names) (place_of s.names r.0) r.1 place sized);
+          (stands (length names) (place_of s.names r.0) r.1 place);
     })
 
-with_line_keeps : (s : ScriptText) (o : Option (List ℕ × Request)) (t : ScriptText) → ((r : List ℕ × Request) → o ≡ Some r → IsSized r.1) → option_and_then (with_command s) o ≡ Some t → IsScript s → IsScript t
-with_line_keeps s (Some r) t sized e is = with_command_keeps s r t e (sized r refl) is
-with_line_keeps s None t sized e is = cc
+with_line_keeps : (s : ScriptText) (o : Option (List ℕ × Request)) (t : ScriptText) → option_and_then (with_command s) o ≡ Some t → IsScript s → IsScript t
+with_line_keeps s (Some r) t e is = with_command_keeps s r t e is
+with_line_keeps s None t e is = cc
 
 ok_is : (x y : ScriptText) (r : Result ScriptText ℕ) → r ≡ Ok x → r ≡ Ok y → x ≡ y
 ok_is x y r a b = cc
@@ -155,8 +95,7 @@ script_from_keeps number s [] t is e = cc
 script_from_keeps number s (line ∷ lines) t is e =
     step_keeps _ number (ended number s lines) (with_line s (fields_of line)) (λ longer. script_from (number + 1) longer lines) t
     (λ end. ended_keeps number s lines t end is)
-    (λ longer has rest. script_from_keeps (number + 1) longer lines t
-    (with_line_keeps s (request_of (fields_of line)) longer (request_sized (fields_of line)) has is) rest)
+    (λ longer has rest. script_from_keeps (number + 1) longer lines t (with_line_keeps s (request_of (fields_of line)) longer has is) rest)
     e
 
 title_named : (words : List (List ℕ)) (name : List ℕ) → title_of words ≡ Some name → is_name name ≡ true

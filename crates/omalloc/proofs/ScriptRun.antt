@@ -1,13 +1,10 @@
 -- A script's run, command by command: so far its calls have these replies, and the rest of the run follows,
 -- whatever later replies are.
-use Rattle.std.proofs.Common.{◌≡◌, ℕ, zero, suc, ◌+◌, ◌<◌, ◌==◌, Bool, true, false, if◌then◌else◌, Option, Some, None, is_some, IsTrue, List, [], ◌∷◌, ◌++◌, length, map, replicate, refl, sym, subst, ◌∙◌, ap, arith, append_assoc, append-nil, drop, drop-cons, get_or, ◌≤◌, ◌||◌, nat_le, length-append, add-one, inr}
-use Rattle.std.specs.List.{flat_map, AllByRecursion, find, list_any, slice_index_or}
-use Rattle.std.proofs.lemmas.Bool.{le-leb, ne_eqb}
-use Rattle.om_geom.specs.Classes.{least_class}
+use Rattle.std.proofs.Common.{◌≡◌, ℕ, zero, suc, ◌+◌, ◌<◌, ◌==◌, Bool, true, false, if◌then◌else◌, Option, Some, None, List, [], ◌∷◌, ◌++◌, length, map, replicate, refl, sym, subst, ◌∙◌, ap, arith, append_assoc, append-nil, drop, drop-cons, get_or, ◌≤◌, ◌||◌, length-append, add-one, inr}
+use Rattle.std.specs.List.{flat_map, AllByRecursion, list_any, slice_index_or}
 use Rattle.std.proofs.lemmas.List.{map-append, drop_all}
 use Rattle.std.proofs.lemmas.List.Concat.{flat_map-append}
 use Rattle.std.proofs.lemmas.List.Folds.{list_any-append}
-use Rattle.om_geom.specs.Numbers.{largest_class, most_zones}
 use Rattle.om_opts.specs.declared.options.Opts.{Opts}
 use Rattle.om_words.specs.DrawnWords.{WordSource, undrawn}
 use Rattle.om_words.specs.PlannedWords.{source_for}
@@ -24,8 +21,7 @@ use Rattle.om_model.specs.declared.reply.Outcome.TheVariants as outcome
 use Rattle.om_model.specs.declared.reply.Reply.{Reply}
 use Rattle.om_model.specs.Data.CallEntry.{CallEntry}
 use Rattle.om_model.specs.Output.Head.{Head, rules_of}
-use Rattle.om_model.specs.Pool.Journal.{phases_in, phase_numbers, is_served}
-use Rattle.om_model.specs.Pool.Rules.{Rules}
+use Rattle.om_model.specs.Pool.Journal.{phases_in, phase_numbers}
 use Rattle.om_model.specs.Scripts.Calls.{AreCalls, OnlyCallers, CallerBelow, IsAnswered, last_reply, seen_of, seen_from, seen_in, asked_in}
 use Rattle.om_model.specs.Scripts.Outcomes.{outcome_of, is_fault}
 use Rattle.om_pool.specs.PoolView.{rules_by}
@@ -248,26 +244,7 @@ IsEnded-pushed commands outcomes pushed same ended = subst (λ os. IsEnded comma
 
 -- the rules of a pool that is alone are those of the head
 pub rules_by_head : (options : Opts) (zones : ℕ) (plan : WordPlan) (warned : List ℕ) (head : Head) (words : WordSource) →
-    record { options = options; zones = zones; plan = plan; warned = warned } ≡ head → head.zones ≡ most_zones → words ≡ undrawn (source_for plan 0) →
-    rules_by options most_zones words.source ≡ rules_of head 0
-rules_by_head options zones plan warned head words same all drawn =
-    let count : zones ≡ most_zones = ap (λ (h : Head). h.zones) same ∙ all in
-    let P : ℕ → Rules = λ n. record { options = options; zones = n; words = source_for plan 0 } in
-    ap (λ (w : WordSource). rules_by options most_zones w.source) drawn ∙ ap P (sym count) ∙ ap (λ (h : Head). rules_of h 0) same
-
--- ---- the sizes of an accepted script are served
-
-first_or : (b : Bool) (first : ℕ) (rest : Option ℕ) → is_some rest ≡ true → is_some (if b then Some first else rest) ≡ true
-first_or true first rest has = refl
-first_or false first rest has = has
-
-find_last : (p : ℕ → Bool) (xs : List ℕ) (x : ℕ) → p x ≡ true → is_some (find p (xs ++ x ∷ [])) ≡ true
-find_last p [] x here = ap (λ b. is_some (if b then Some x else None)) here
-find_last p (y ∷ ys) x here = first_or (p y) y (find p (ys ++ x ∷ [])) (find_last p ys x here)
-
-pub size_served : (rules : Rules) (size : ℕ) → rules.options.canary ≡ false → size ≤ largest_class → IsTrue (is_served rules size)
-size_served rules zero plain small = refl
-size_served rules (suc n) plain small =
-    let most : List ℕ = 16 ∷ 32 ∷ 64 ∷ 128 ∷ 256 ∷ 512 ∷ 1024 ∷ [] in
-    let found : is_some (least_class (suc n)) ≡ true = find_last (nat_le (suc n)) most largest_class (le-leb (suc n) largest_class small) in
-    rw (plain, ne_eqb (suc n) 0 (λ none. omega arith)) found
+    record { options = options; zones = zones; plan = plan; warned = warned } ≡ head → words ≡ undrawn (source_for plan 0) →
+    rules_by options zones words.source ≡ rules_of head 0
+rules_by_head options zones plan warned head words same drawn =
+    ap (λ (w : WordSource). rules_by options zones w.source) drawn ∙ ap (λ (h : Head). rules_of h 0) same

@@ -1,11 +1,10 @@
 -- Accepted input. Line 1 is `script NAME`, then come at most 200,000 lines `malloc V N`, `free V`, `load V OFF` or
--- `store V OFF BYTE`, and the last line is `end`. The numbers are decimal: N up to 2048, OFF up to 2^64 - 1, BYTE up to
--- 255. V and NAME are names, and at most 64 different variables are used. One byte 32 stands between two fields of a
+-- `store V OFF BYTE`, and the last line is `end`. The numbers are decimal: N and OFF up to 2^64 - 1, BYTE up to 255.
+-- V and NAME are names, and at most 64 different variables are used. One byte 32 stands between two fields of a
 -- line, and none elsewhere. Each line ends with byte 10, the last perhaps without.
 use Rattle.std.specs.Prelude.{ℕ, ◌≡◌, ◌+◌, ◌-◌, ◌*◌, ◌&&◌, ◌==◌, nat_le, nat_lt, List, [], ◌∷◌, ◌++◌, length, fold, codes, Option, Some, None, Result, Ok, Err, if◌then◌else◌, bytes_eq}
 use Rattle.std.specs.List.{slice_split, onto_first, list_all, position_or_len}
 use Rattle.std.specs.Option.{option_map_or, option_map, option_and_then}
-use Rattle.om_geom.specs.Numbers.{largest_class}
 use Rattle.om_model.specs.Scripts.Names.{is_digit, is_name}
 use Rattle.omalloc.specs.declared.command.Command.{Command}
 use Rattle.omalloc.specs.declared.command.Command.TheVariants.{Malloc, Free, Load, Store}
@@ -13,7 +12,7 @@ use Rattle.omalloc.specs.declared.script.Request.{Request}
 use Rattle.omalloc.specs.declared.script.Request.TheVariants as request
 use Rattle.omalloc.specs.declared.read.TextStop.{TextStop}
 use Rattle.omalloc.specs.declared.read.TextStop.TheVariants.{Refused, Memory}
-use Rattle.omalloc.specs.Script.{ScriptText, most_commands, most_names, greatest_offset, greatest_byte}
+use Rattle.omalloc.specs.Script.{ScriptText, most_commands, most_names, greatest_size, greatest_offset, greatest_byte}
 
 -- the lines end at each byte 10, and the last one perhaps at the end of the text
 abbrev pub text_lines : List ℕ → List (List ℕ)
@@ -56,7 +55,7 @@ store_of other = None
 -- by the keyword of the line
 abbrev pub asked_of : List ℕ → List (List ℕ) → Option Request
 asked_of keyword fields =
-    if bytes_eq keyword (codes "malloc") then option_map request.Malloc (only_number largest_class fields)
+    if bytes_eq keyword (codes "malloc") then option_map request.Malloc (only_number greatest_size fields)
     else if bytes_eq keyword (codes "free") then free_of fields
     else if bytes_eq keyword (codes "load") then option_map request.Load (only_number greatest_offset fields)
     else if bytes_eq keyword (codes "store") then store_of fields

@@ -1,8 +1,8 @@
--- The arguments of the command line: `run`, then perhaps `-o LETTERS`, then perhaps `-s SEED` or `-w LIST`.
--- LETTERS is any text that doesn't begin with `-`. SEED is a number up to 2^64 - 1, and LIST is one or more
--- numbers up to 2^32 - 1 with single commas between them; a number is 1 to 20 decimal digits. Without letters
--- the options are those of the start, and without a seed or a list the seed is 0. Letters that leave an option
--- on which isn't built yet are refused.
+-- The arguments of the command line: `run`, then perhaps `-o LETTERS`, then perhaps `-z ZONES`, then perhaps
+-- `-s SEED` or `-w LIST`. LETTERS is any text that doesn't begin with `-`. ZONES is a number from 1 to 64, SEED one
+-- up to 2^64 - 1, and LIST is one or more numbers up to 2^32 - 1 with single commas between them; a number is 1 to 20
+-- decimal digits. Without letters the options are those of the start, without ZONES there are 64, and without a seed
+-- or a list the seed is 0. Letters that leave an option on which isn't built yet are refused.
 use Rattle.std.specs.Prelude.{ℕ, Bool, false, not, ◌||◌, ◌==◌, nat_le, List, [], ◌∷◌, length, slice_get, codes, bytes_eq, Option, Some, None, if◌then◌else◌}
 use Rattle.std.specs.List.{slice_split}
 use Rattle.std.specs.Option.{option_map, option_map_or, option_and_then}
@@ -28,6 +28,7 @@ most_digits = 20
 -- what the arguments of a run say
 pub record RunArguments : Type 0 where
   pub letters : List ℕ
+  pub zones : ℕ
   pub plan : WordPlan
 
 -- a number up to the greatest, of 1 to 20 digits
@@ -59,8 +60,23 @@ plan_from [] = Some (Seeded 0)
 plan_from (option ∷ value ∷ []) = plan_of option value
 plan_from other = None
 
+-- the zones that the value of `-z` says
+abbrev pub zones_of : List ℕ → Option ℕ
+zones_of value = option_and_then (λ zones. if nat_le 1 zones then Some zones else None) (short_number_to most_zones value)
+
+abbrev pub with_zones : ℕ → List (List ℕ) → Option (ℕ × WordPlan)
+with_zones zones arguments = option_map (λ plan. (zones, plan)) (plan_from arguments)
+
+-- the zones and the plan that the arguments after the letters say
+abbrev pub zones_from : List (List ℕ) → Option (ℕ × WordPlan)
+zones_from (option ∷ value ∷ arguments) =
+    if bytes_eq option (codes "-z") then option_and_then (λ zones. with_zones zones arguments) (zones_of value)
+    else with_zones most_zones (option ∷ value ∷ arguments)
+zones_from arguments = with_zones most_zones arguments
+
 abbrev pub with_letters : List ℕ → List (List ℕ) → Option RunArguments
-with_letters letters arguments = option_map (λ plan. record { letters = letters; plan = plan }) (plan_from arguments)
+with_letters letters arguments =
+    option_map (λ said. record { letters = letters; zones = said.0; plan = said.1 }) (zones_from arguments)
 
 -- the value of an option doesn't begin with `-`
 abbrev pub is_value : List ℕ → Bool
@@ -79,13 +95,13 @@ run_arguments_of (command ∷ arguments) = if bytes_eq command (codes "run") the
 
 -- what these options ask for is built
 abbrev pub is_built : Opts → Bool
-is_built o = not (o.canary || o.freecheck || o.guard || o.unmap || o.always_move || o.xmalloc || o.dump)
+is_built o = not (o.canary || o.freecheck || o.always_move || o.xmalloc || o.dump)
 
--- the head of a run by such arguments: one pool is kept, in an arena of all its zones
+-- the head of a run by such arguments: one pool is kept
 abbrev pub head_of : RunArguments → Head
 head_of run = record {
   options = record (opt_of run.letters) { pools = 1 };
-  zones = most_zones;
+  zones = run.zones;
   plan = run.plan;
   warned = warned_of run.letters;
 }

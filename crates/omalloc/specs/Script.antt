@@ -1,7 +1,6 @@
 -- What a script says: its name, the names of its variables in the order of their first use, and its
 -- commands. A variable of a command is its place in the names.
 use Rattle.std.specs.Prelude.{◌≡◌, ℕ, ◌<◌, ◌≤◌, true, List, length, All}
-use Rattle.om_geom.specs.Numbers.{largest_class}
 use Rattle.om_model.specs.Scripts.Names.{is_name}
 use Rattle.omalloc.specs.declared.command.Command.{Command}
 use Rattle.omalloc.specs.declared.command.Command.TheVariants.{Malloc, Free, Load, Store}
@@ -13,7 +12,10 @@ most_commands = 200000
 abbrev pub most_names : ℕ
 most_names = 64
 
--- the greatest offset, and the greatest byte
+-- the greatest size, the greatest offset, and the greatest byte
+abbrev pub greatest_size : ℕ
+greatest_size = 18446744073709551615
+
 abbrev pub greatest_offset : ℕ
 greatest_offset = 18446744073709551615
 
@@ -27,7 +29,7 @@ pub record ScriptText : Type 0 where
 
 -- a command of a script with so many variables
 abbrev pub IsCommand : ℕ → Command → Type 0
-IsCommand variables (Malloc var size site) = (var < variables) × (size ≤ largest_class) × (site ≡ 0)
+IsCommand variables (Malloc var size site) = (var < variables) × (site ≡ 0)
 IsCommand variables (Free var) = var < variables
 IsCommand variables (Load var off) = var < variables
 IsCommand variables (Store var off byte) = var < variables

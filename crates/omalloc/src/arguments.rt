@@ -4,7 +4,7 @@ ghost use Rattle.std.specs.Prelude.{◌≡◌, ◌≤◌, ◌==◌, map, string_
 ghost use Rattle.std.specs.List.{slice_split};
 ghost use Rattle.std.specs.Option.{option_map};
 ghost use Rattle.om_opts.specs.Letters.{opt_of};
-ghost use Rattle.omalloc.specs.Arguments.{short_number_to, numbers_of, listed_plan, seeded_plan, plan_of, plan_from, is_value, with_letters, options_from, run_arguments_of, is_built, head_of, head_of_arguments};
+ghost use Rattle.omalloc.specs.Arguments.{short_number_to, numbers_of, listed_plan, seeded_plan, plan_of, plan_from, zones_of, with_zones, zones_from, is_value, with_letters, options_from, run_arguments_of, is_built, head_of, head_of_arguments};
 ghost use Rattle.omalloc.specs.Heads.{IsHead};
 ghost use Rattle.om_words.specs.declared.plan.WordPlan.TheVariants.{Listed, Seeded};
 
@@ -94,6 +94,29 @@ fn plan_from(alloc: Global, arguments: &[String]) -> Result<Option<WordPlan>, Al
     }
 }
 
+// The zones that the value of `-z` says.
+fn zones_of(value: &[u8]) -> Option<u32>
+    ensures { result ≡ zones_of value.now }
+{
+    let zones = short_number_to(u64::from(MOST_ZONES), value)?;
+    if zones >= 1 { Some(zones as u32) } else { None }
+}
+
+// The zones, and the arguments behind them.
+fn cut_zones(arguments: &[String]) -> Option<(u32, &[String])>
+    ensures { MatchOption result (zones_from (map string_bytes arguments.now) ≡ None) (λ cut.
+        zones_from (map string_bytes arguments.now)
+        ≡ with_zones cut.0 (map string_bytes cut.1.now)) }
+{
+    match arguments {
+        [option, value, rest @ ..] if option.as_bytes() == b"-z".as_slice() => {
+            let zones = zones_of(value.as_bytes())?;
+            Some((zones, rest))
+        }
+        _ => Some((MOST_ZONES, arguments)),
+    }
+}
+
 // The arguments after `run`.
 fn after_run(arguments: &[String]) -> Option<&[String]>
     ensures { let given = run_arguments_of (map string_bytes arguments.now) in
@@ -140,19 +163,19 @@ fn cut_letters(arguments: &[String]) -> Option<(&[u8], &[String])>
 fn is_built(opts: Opts) -> bool
     ensures { result ≡ is_built opts }
 {
-    !(opts.canary
-        || opts.freecheck
-        || opts.guard
-        || opts.unmap
-        || opts.always_move
-        || opts.xmalloc
-        || opts.dump)
+    !(opts.canary || opts.freecheck || opts.always_move || opts.xmalloc || opts.dump)
 }
 
-// The head of a run with these letters and this plan; none where they ask for what isn't built.
-fn head_of(alloc: Global, letters: &[u8], plan: WordPlan) -> Result<Option<Head>, AllocError>
+// The head of a run with these letters, zones and plan; none where they ask for what isn't built.
+fn head_of(
+    alloc: Global,
+    letters: &[u8],
+    zones: u32,
+    plan: WordPlan,
+) -> Result<Option<Head>, AllocError>
     ensures { IfOk result (λ head. head ≡ (if is_built (opt_of letters.now)
-        then Some (head_of (record { letters = letters.now; plan = plan })) else None)) }
+        then Some (head_of (record { letters = letters.now; zones = zones; plan = plan }))
+        else None)) }
 {
     let parsed = parse(alloc, letters)?;
     let opts = parsed.opts();
@@ -161,7 +184,7 @@ fn head_of(alloc: Global, letters: &[u8], plan: WordPlan) -> Result<Option<Head>
     }
     Ok(Some(Head {
         opts: Opts { pools: 1, ..opts },
-        zones: MOST_ZONES,
+        zones,
         plan,
         warned: Vec::from_slice(alloc, parsed.warned())?,
     }))
@@ -176,8 +199,11 @@ fn head_of_arguments(alloc: Global, arguments: &[String]) -> Result<Option<Head>
     let Some((letters, rest)) = cut_letters(options) else {
         return Ok(None);
     };
+    let Some((zones, rest)) = cut_zones(rest) else {
+        return Ok(None);
+    };
     match plan_from(alloc, rest)? {
-        Some(plan) => head_of(alloc, letters, plan),
+        Some(plan) => head_of(alloc, letters, zones, plan),
         None => Ok(None),
     }
 }

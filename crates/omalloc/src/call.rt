@@ -123,8 +123,8 @@ fn answer<R: Wait, S: Source, K: Sink>(
 
 #[tactic(auto, using(crate::proofs::Answers::complete, crate::proofs::Answers::refused))]
 /// The program: runs the script that the source gives, and writes what came of it, where the
-/// arguments are `run`, then perhaps `-o` and option letters, then perhaps `-s` and a seed or `-w` and
-/// a list of words. The gate isn't called yet.
+/// arguments are `run`, then perhaps `-o` and option letters, then perhaps `-z` and a number of zones,
+/// then perhaps `-s` and a seed or `-w` and a list of words. The gate isn't called yet.
 pub fn omalloc<R: Threads + Wait + Sync, S: Source, K: Sink, G: Gate>(
     rt: &R,
     alloc: Global,

@@ -18,7 +18,8 @@ use std::thread::Threads;
 
 // The arguments in their order, none left out.
 fn listed(alloc: Global, given: Args) -> Result<Vec<String>, AllocError>
-    ensures { IfOk result (λ all. all.items ≡ take (into_iter_len given) (into_iter_items given)) }
+    ensures { IfOk result (λ all.
+        all.items ≡ take (into_iter_len given) (into_iter_items given)) }
 {
     let mut all = Vec::new(alloc);
     for argument in given {

@@ -168,8 +168,8 @@ mod tests {
     #[test]
     fn refuses_other_commands(rt: HostRuntime) -> Result<(), Fail> {
         let commands = [
-            "malloc x 2049",
             "malloc x 18446744073709551616",
+            "malloc x 100000000000000000000000000000000000000000",
             "malloc x  1",
             "malloc x 1\r",
             "malloc x 1 2",
@@ -233,8 +233,8 @@ mod tests {
     #[test]
     fn reads_the_commands(rt: HostRuntime) -> Result<(), Fail> {
         let text = b"script a
-malloc x 00000000000000000000002048
-malloc y 0
+malloc x 00000000000000000000002049
+malloc y 18446744073709551615
 load y 00018446744073709551615
 store x 007 0255
 free x
@@ -243,12 +243,12 @@ end";
         let commands = [
             Command::Malloc {
                 var: 0,
-                size: 2048,
+                size: 2049,
                 site: 0,
             },
             Command::Malloc {
                 var: 1,
-                size: 0,
+                size: u64::MAX,
                 site: 0,
             },
             Command::Load {

@@ -1,8 +1,7 @@
 //! A script on a pool of its own.
-ghost use Rattle.std.specs.Prelude.{◌≡◌, ◌+◌, ◌<◌, ◌≤◌, [], length, vec_len, IfOk, IsTrue, false};
+ghost use Rattle.std.specs.Prelude.{◌≡◌, ◌+◌, ◌<◌, ◌≤◌, [], length, vec_len, IfOk};
 ghost use Rattle.std.specs.List.{list_any};
 ghost use Rattle.om_geom.specs.Numbers.{most_zones};
-ghost use Rattle.om_model.specs.Pool.Journal.{is_served};
 ghost use Rattle.om_model.specs.Scripts.Outcomes.{missed, outcome_of, is_fault};
 ghost use Rattle.om_pool.specs.PoolView.{rules_by};
 ghost use Rattle.omalloc.specs.ScriptRun.{at_offset, given};
@@ -13,7 +12,7 @@ ghost use Rattle.omalloc.specs.Script.{IsScript, IsCommand, most_commands};
 use crate::command::Command;
 use crate::script::Script;
 use om_broker::LoneBroker;
-use om_geom::{Addr, MOST_ZONES};
+use om_geom::Addr;
 use om_model::{Fault, Head, Op, Outcome, Reply, Segv, Transcript, Who};
 use om_opts::Opts;
 use om_pool::Pool;
@@ -100,7 +99,6 @@ fn call_malloc<R: Wait>(
     requires short { length pool.old.journal.items < most_commands }
     requires zones { pool.old.rules.zones ≤ most_zones }
     requires moves { HasMoves pool.old }
-    requires served { IsTrue (is_served pool.old.rules size) }
     ensures called { IfOk result (λ outcome. IsCall number (Op.Malloc size site)
         pool.old.journal.items pool.new.journal.items outcome) }
     ensures rules { pool.new.rules ≡ pool.old.rules }
@@ -168,7 +166,6 @@ fn call_store(
 }
 
 // One command of the only script, asked of the only pool.
-#[tactic(auto, using(crate::proofs::ScriptRun::size_served))]
 fn run_command<R: Wait>(
     rt: &R,
     pool: &mut Pool<LoneBroker>,
@@ -180,7 +177,6 @@ fn run_command<R: Wait>(
     requires zones { pool.old.rules.zones ≤ most_zones }
     requires moves { HasMoves pool.old }
     requires form { IsCommand (vec_len values.old) command }
-    requires plain { pool.old.rules.options.canary ≡ false }
     ensures ran { IfOk result (λ outcome. IsCommandRun number command
         values.old.items values.new.items pool.old.journal.items pool.new.journal.items outcome) }
     ensures rules { pool.new.rules ≡ pool.old.rules }
@@ -209,15 +205,22 @@ fn run_command<R: Wait>(
     }
 }
 
-// A pool of all zones, which it has to itself.
-fn new_pool(alloc: Global, opts: Opts, words: Words) -> Result<Pool<LoneBroker>, AllocError>
-    requires { words.place ≡ 0 }
-    ensures rules { IfOk result (λ pool. pool.rules ≡ rules_by opts most_zones words.source) }
+// A pool of so many zones, which it has to itself.
+fn new_pool(
+    alloc: Global,
+    opts: Opts,
+    words: Words,
+    zones: u32,
+) -> Result<Pool<LoneBroker>, AllocError>
+    requires first { words.place ≡ 0 }
+    requires some_zone { 1 ≤ zones }
+    requires few_zones { zones ≤ most_zones }
+    ensures rules { IfOk result (λ pool. pool.rules ≡ rules_by opts zones words.source) }
     ensures entries { IfOk result (λ pool. pool.journal.items ≡ []) }
     ensures moves { IfOk result HasMoves }
 {
-    let broker = LoneBroker::new(alloc, MOST_ZONES)?;
-    match Pool::start(alloc, opts, words, MOST_ZONES, broker) {
+    let broker = LoneBroker::new(alloc, zones)?;
+    match Pool::start(alloc, opts, words, zones, broker) {
         Ok(pool) => Ok(pool),
         Err(_) => Err(AllocError),
     }
@@ -236,7 +239,7 @@ pub fn run_script<R: Wait>(
     ensures faulted { IfOk result (λ ran. ran.faulted ≡ list_any is_fault ran.transcript) }
 {
     let words = head.plan.words(alloc, 0)?;
-    let mut pool = new_pool(alloc, head.opts, words)?;
+    let mut pool = new_pool(alloc, head.opts, words, head.zones)?;
     let mut values = vec![in alloc; 0u64; script.variables()]?;
     let mut transcript = Transcript::new(alloc);
     for (i, command) in script.commands().iter().enumerate() {

@@ -2,6 +2,7 @@
 
 ghost use Rattle.std.specs.Prelude.{◌≤◌};
 
+mod blocks;
 mod cache;
 mod heads;
 mod limits;
@@ -82,11 +83,11 @@ fn gives<R: Abort + Threads + Wait + Sync>(
     gives_over(rt, alloc, line, &mut source, &mut sink, (status, written))
 }
 
-// The output of a run of the script a: what stands after the flags, the pool's canary with its entries, and the
+// The output of a run of the script a: what stands from the zones on, the pool's canary with its entries, and the
 // outcomes with the ending.
 fn output_of(alloc: Global, head: &str, pool: &str, outcomes: &str) -> Result<String, AllocError> {
     format!(in alloc;
-        "omalloc 1\nzones 64 pools 1 flags ------- {head}pool 0 canary {pool}board entries 0\nscript 0 a\n{outcomes}done\n"
+        "omalloc 1\nzones {head}pool 0 canary {pool}board entries 0\nscript 0 a\n{outcomes}done\n"
     )
 }
 
@@ -101,6 +102,31 @@ fn gives_output<R: Abort + Threads + Wait + Sync>(
     let written = output_of(alloc, head, pool, outcomes)?;
     gives(rt, alloc, line, text, status, written.as_bytes())
 }
+
+// The arguments and the text, the end, and the three parts of the output.
+struct Case {
+    line: &'static str,
+    text: &'static str,
+    status: Status,
+    head: &'static str,
+    pool: &'static str,
+    outcomes: &'static str,
+}
+
+fn gives_all<R: Abort + Threads + Wait + Sync>(
+    rt: &R,
+    alloc: Global,
+    cases: &[Case],
+) -> Result<(), Fail> {
+    for case in cases {
+        let output = (case.head, case.pool, case.outcomes);
+        gives_output(rt, alloc, case.line, case.text, case.status, output)?;
+    }
+    Ok(())
+}
+
+// The zones and what follows them in the head, where no letter is given and the words are those of list 0.
+const LIST_0: &str = "64 pools 1 flags ------- junk 1 cache 64\nwords list 0\n";
 
 // A block and its free.
 const SCRIPT: &str = "script a\nmalloc x 100\nfree x\nend\n";

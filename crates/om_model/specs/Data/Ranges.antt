@@ -1,4 +1,4 @@
--- Ranges of the numbers in calls, answers and journals: each is one that its type holds, and a call drew at
+-- Ranges of the numbers in calls, answers and journals: each is one that its type holds, and an entry has at
 -- most 4 words.
 use Rattle.std.specs.Prelude.{ℕ, ◌<◌, ◌≤◌, ◌^◌, List, length, IfSome}
 use Rattle.std.specs.List.{AllByRecursion}

@@ -1,14 +1,14 @@
 -- A lawful journal: folded from the opening state, each call has exactly the reply, the words and the
 -- release that its step has, and the zones answered as they may. Phases are numbered 1, 2, .., and change
 -- nothing.
-use Rattle.std.specs.Prelude.{◌≡◌, ℕ, ◌+◌, ◌<◌, ◌≤◌, Bool, true, false, List, [], ◌∷◌, length, map, Option, Some, None, IfSome, IsSomeAnd, if◌then◌else◌}
-use Rattle.std.specs.List.{flat_map, range_with_len, AllByRecursion}
-use Rattle.std.specs.Option.{is_some, option_map}
+use Rattle.std.specs.Prelude.{◌≡◌, ℕ, ◌+◌, ◌<◌, ◌≤◌, false, List, [], ◌∷◌, length, map, Option, Some, None, IfSome, IsSomeAnd}
+use Rattle.std.specs.List.{flat_map, range_with_len}
+use Rattle.std.specs.Option.{option_map}
 use Rattle.om_geom.specs.Addresses.{zone_of}
 use Rattle.om_geom.specs.Fit.{searched_zone}
 use Rattle.om_geom.specs.Numbers.{zone_pages}
 use Rattle.om_model.specs.Data.CallEntry.{CallEntry}
-use Rattle.om_model.specs.Pool.Rules.{Rules, words_from, size_class}
+use Rattle.om_model.specs.Pool.Rules.{Rules, words_from}
 use Rattle.om_model.specs.Pool.Runs.{Run, run_of}
 use Rattle.om_model.specs.Pool.State.{State, opening, is_held}
 use Rattle.om_model.specs.Pool.Steps.{Wish, Nothing, Search, At, Answers, Step}
@@ -25,22 +25,14 @@ use Rattle.om_model.specs.declared.operation.Who.{Who}
 
 -- ---- the step of an operation
 
--- the sizes that are served so far: chunks
-abbrev pub is_served : Rules → ℕ → Bool
-is_served rules size = is_some (size_class rules size)
-
--- each live block's size is served
-abbrev pub AreServed : Rules → State → Type 0
-AreServed rules state = AllByRecursion (λ block. is_served rules block.size ≡ true) state.live
-
 -- what the operation asks of the zones
 abbrev pub wish_of : Rules → State → Op → Wish
-wish_of rules state (Malloc size site) = if is_served rules size then malloc_wish rules state size else Nothing
+wish_of rules state (Malloc size site) = malloc_wish rules state size
 wish_of rules state op = Nothing
 
 -- what it does, given their answers; none for an operation that has no step
 abbrev pub step_of : Rules → State → Op → Answers → Option Step
-step_of rules state (Malloc size site) answers = if is_served rules size then Some (malloc rules state size site answers.claim) else None
+step_of rules state (Malloc size site) answers = Some (malloc rules state size site answers.claim)
 step_of rules state (Free address) answers = Some (free rules state address)
 step_of rules state (Load address) answers = Some (load rules state address)
 step_of rules state (Store address byte) answers = Some (store rules state address byte)

@@ -1,9 +1,9 @@
 -- Junk: bytes that tell a reader of fresh or freed memory what it is. At level 2 a block is filled when it is
 -- allocated: its whole place, that of a block of size 0 too, or all its data pages. When it is freed, a place is filled
--- whole at level 1 and at level 2; of a page block level 1 fills the front, and level 2 all data pages.
+-- whole at level 1 and at level 2; of a page block level 1 fills the first 2048 bytes, and level 2 all data pages.
 use Rattle.std.specs.Prelude.{ℕ, ◌*◌, ◌==◌, ◌||◌, if◌then◌else◌, Option, Some, None}
 use Rattle.om_geom.specs.Classes.{data_pages}
-use Rattle.om_geom.specs.Numbers.{page_size, largest_class}
+use Rattle.om_geom.specs.Numbers.{page_size}
 use Rattle.om_geom.specs.declared.address.Extent.{Extent}
 use Rattle.om_model.specs.Pool.InUse.{use_of_place, data_of}
 use Rattle.om_model.specs.Pool.Rules.{Rules, size_class}
@@ -37,10 +37,14 @@ unfoldable pub with_freed_place : Rules → Place → State → State
 with_freed_place rules place state =
     if rules.options.junk == 1 || rules.options.junk == 2 then filled_with freed_byte (extent_of_place place) state else state
 
--- how many bytes of a freed page block are filled, from its first on
+-- so many bytes of a freed page block are filled at level 1
+abbrev pub freed_front : ℕ
+freed_front = 2048
+
+-- how many bytes of a freed block of so many data pages are filled, from its first on
 abbrev pub freed_len : ℕ → ℕ → ℕ
-freed_len level size = if level == 1 then largest_class else if level == 2 then page_size * data_pages size else 0
+freed_len level pages = if level == 1 then freed_front else if level == 2 then page_size * pages else 0
 
 unfoldable pub with_freed_pages : Rules → Block → State → State
 with_freed_pages rules block state =
-    filled_with freed_byte (record { first = block.address; len = freed_len rules.options.junk block.size }) state
+    filled_with freed_byte (record { first = block.address; len = freed_len rules.options.junk (data_pages block.size) }) state

@@ -119,7 +119,8 @@ fn put_off(
     place: Place,
 ) -> Result<State, AllocError>
     requires { slot < slot_count }
-    ensures { IfOk result (λ next. next ≡ put_off (rules_of head.now pool) state.now slot place) }
+    ensures { IfOk result (λ next. next ≡
+        put_off (rules_of head.now pool) state.now slot place) }
 {
     let next = into_slot(state, slot, place)?;
     Ok(with_freed_place(head, pool, place, next))
@@ -188,7 +189,8 @@ fn slot_holds(slot: Option<Place>, address: u64) -> bool
 fn freed_again(head: &Head, pool: u32, state: &State, address: u64) -> Result<Step, AllocError>
     requires words { HasWords head.now.plan }
     requires few { state.now.drawn < 2 ^ 63 }
-    ensures { IfOk result (λ step. step ≡ freed_again (rules_of head.now pool) state.now address) }
+    ensures { IfOk result (λ step. step ≡
+        freed_again (rules_of head.now pool) state.now address) }
 {
     let slot = drawn_slot(head, pool, state);
     let seen = head.opts.freecheck || slot_holds(slot_of(state, slot), address);
@@ -206,7 +208,7 @@ fn freed_again(head: &Head, pool: u32, state: &State, address: u64) -> Result<St
     })
 }
 
-// A page block leaves the live blocks: its pages with the guard are a run that becomes free.
+// A page block leaves the live blocks, and its bytes are filled: its pages with the guard are a run that becomes free.
 fn without_page_block(
     head: &Head,
     pool: u32,

@@ -39,7 +39,10 @@ impl Model for Use {
 
     ghost Value = { InUse.Use };
 
-    ghost view = { λ u. record { extent = record { first = u.first; len = u.len }; kind = kind_in u.kind } };
+    ghost view = { λ u. record {
+      extent = record { first = u.first; len = u.len };
+      kind = kind_in u.kind;
+    } };
 
     ghost invariant = { λ u. (u.first < 2 ^ 66) × (u.len < 2 ^ 66) };
 }
@@ -138,7 +141,7 @@ pub fn uses(head: &Head, pool: u32, state: &State) -> Result<Vec<Use>, AllocErro
 pub(super) fn address_of(page: u32) -> u64
     ensures { result ≡ address_of page }
 {
-    FIRST_ADDRESS + u64::from(PAGE_SIZE) * u64::from(page)
+    first_byte(u64::from(page)) as u64
 }
 
 /// The same for pages with greater numbers.
@@ -169,10 +172,7 @@ pub(super) fn touches(page: u64, one: &Use) -> bool
 pub fn page_kind(used: &[Use], page: u64) -> Option<Kind>
     ensures { option_map kind_in result ≡ page_kind used.now page }
 {
-    match used.iter().find(|one| touches(page, one)) {
-        Some(one) => Some(kind_of(one)),
-        None => None,
-    }
+    used.iter().find(|one| touches(page, one)).map(kind_of)
 }
 
 fn is_touched(used: &[Use], page: u64) -> bool

@@ -9,11 +9,11 @@ ghost use Rattle.om_words.specs.PlannedWords.{HasWords};
 ghost use Rattle.om_model.specs.Output.Head.{rules_of};
 ghost use Rattle.om_model.specs.Pool.Runs.{run_of};
 ghost use Rattle.om_model.specs.Pool.State.{opening, is_held};
-ghost use Rattle.om_model.specs.Pool.Journal.{is_served, wish_of, step_of, NamesSearched, IsFresh, IsFound, EndsSearch, MayAnswer, answers_of, GivesUp, Agrees, IsLawfulCall, IsLawfulEntry, after, state_from, IsLawfulFrom, phases_in, phase_numbers, IsLawful};
+ghost use Rattle.om_model.specs.Pool.Journal.{wish_of, step_of, NamesSearched, IsFresh, IsFound, EndsSearch, MayAnswer, answers_of, GivesUp, Agrees, IsLawfulCall, IsLawfulEntry, after, state_from, IsLawfulFrom, phases_in, phase_numbers, IsLawful};
 ghost use Rattle.om_model.specs.Slow.{run_in, wish_in, IsSmallClaim};
 ghost use Rattle.om_model.specs.declared.entry.Entry.TheVariants.{Call};
 
-use super::rules::{size_class, words_from};
+use super::rules::words_from;
 use super::state::{State, is_held};
 use super::steps::{Run, Step, Wish};
 use crate::content::Head;
@@ -23,12 +23,6 @@ use crate::looks::LookList;
 use crate::operation::Op;
 use om_geom::ZONE_PAGES;
 use std::alloc::{AllocError, Global};
-
-fn is_served(head: &Head, pool: u32, size: u64) -> bool
-    ensures { result ≡ is_served (rules_of head.now pool) size }
-{
-    size_class(head, size).is_some()
-}
 
 // The zone to which a search by the word comes after so many.
 fn searched_zone(zones: u32, word: u32, i: u32) -> u32
@@ -242,13 +236,7 @@ impl State {
             wish_of (rules_of head.now pool) self.now op) }
     {
         match op {
-            Op::Malloc { size, .. } => {
-                if is_served(head, pool, size) {
-                    self.malloc_wish(head, pool, size)
-                } else {
-                    Ok(Wish::Nothing)
-                }
-            }
+            Op::Malloc { size, .. } => self.malloc_wish(head, pool, size),
             _ => Ok(Wish::Nothing),
         }
     }
@@ -268,13 +256,7 @@ impl State {
             (record { claim = claim; looks = []; taken = None })) }
     {
         match op {
-            Op::Malloc { size, site } => {
-                if is_served(head, pool, size) {
-                    Ok(Some(self.malloc(head, pool, size, site, claim)?))
-                } else {
-                    Ok(None)
-                }
-            }
+            Op::Malloc { size, site } => Ok(Some(self.malloc(head, pool, size, site, claim)?)),
             Op::Free { addr } => Ok(Some(self.free(head, pool, addr)?)),
             Op::Load { addr } => Ok(Some(self.load(head, pool, addr)?)),
             Op::Store { addr, byte } => Ok(Some(self.store(head, pool, addr, byte)?)),

@@ -10,11 +10,14 @@ use super::rules::size_class;
 use super::state::State;
 use crate::block::{Block, Place};
 use crate::content::Head;
-use om_geom::{LARGEST_CLASS, PAGE_SIZE, pages_of};
+use om_geom::{PAGE_SIZE, pages_of};
 
 const FRESH: u8 = 0xdb;
 
 const FREED: u8 = 0xdf;
+
+// So many bytes of a freed page block are filled at level 1.
+const FREED_FRONT: u128 = 2048;
 
 // The bytes that a block has: its whole place, or its data pages.
 fn use_of(head: &Head, pool: u32, block: Block) -> Use
@@ -60,14 +63,14 @@ pub(super) fn with_freed_place(head: &Head, pool: u32, place: Place, state: Stat
     }
 }
 
-// How many bytes of a freed page block are filled, from its first on.
-fn freed_len(level: u8, size: u64) -> u128
-    ensures value { result ≡ freed_len level size }
-    ensures few { result < 2 ^ 66 }
+// How many bytes of a freed block of so many data pages are filled, from its first on.
+fn freed_len(level: u8, pages: u64) -> u128
+    ensures value { result ≡ freed_len level pages }
+    ensures few { result < 2 ^ 80 }
 {
     match level {
-        1 => u128::from(LARGEST_CLASS),
-        2 => u128::from(PAGE_SIZE) * u128::from(pages_of(size)),
+        1 => FREED_FRONT,
+        2 => u128::from(PAGE_SIZE) * u128::from(pages),
         _ => 0,
     }
 }
@@ -77,7 +80,7 @@ fn freed_len(level: u8, size: u64) -> u128
 pub(super) fn with_freed_pages(head: &Head, pool: u32, block: Block, mut state: State) -> State
     ensures { result ≡ with_freed_pages (rules_of head.now pool) block state }
 {
-    let len = freed_len(head.opts.junk, block.size);
+    let len = freed_len(head.opts.junk, pages_of(block.size));
     state.memory.fill(u128::from(block.address), len, FREED);
     state
 }

@@ -81,7 +81,8 @@ fn named_by_move(made: Move) -> Named
 }
 
 fn push_taken(named: &mut Vec<Named>, taken: Option<Look>) -> Result<(), AllocError>
-    ensures { OnOk result (named.new.items ≡ named.old.items ++ map named_by_look (option_to_list taken)) }
+    ensures { OnOk result (named.new.items ≡ named.old.items ++
+        map named_by_look (option_to_list taken)) }
 {
     if let Some(look) = taken {
         named.push(named_by_look(look))?;
@@ -99,7 +100,8 @@ fn push_looks(named: &mut Vec<Named>, looks: &[Look]) -> Result<(), AllocError>
 }
 
 fn push_move(named: &mut Vec<Named>, made: Option<Move>) -> Result<(), AllocError>
-    ensures { OnOk result (named.new.items ≡ named.old.items ++ map named_by_move (option_to_list made)) }
+    ensures { OnOk result (named.new.items ≡ named.old.items ++
+        map named_by_move (option_to_list made)) }
 {
     if let Some(made) = made {
         named.push(named_by_move(made))?;

@@ -1,4 +1,4 @@
-//! Picks: on which page a chunk goes, and at which place of the page.
+//! Picks: on which page a chunk goes, and at which place of the page; and on which run a page block goes.
 ghost use Rattle.std.specs.Prelude.{◌≡◌, ◌-◌, ◌^◌, ◌<◌, ◌&&◌, IsTrue, IfOk};
 ghost use Rattle.std.specs.List.{find, list_all, list_any, range_with_len};
 ghost use Rattle.om_geom.specs.Classes.{is_class, places_of};

@@ -8,6 +8,7 @@ ghost use Rattle.om_model.specs.Pool.State.{opening, delayed, is_held, with_run,
 ghost use Rattle.om_model.specs.Pool.Runs.{is_page_of};
 ghost use Rattle.om_model.specs.Slow.{run_in};
 
+use super::in_use::page_of;
 use super::memory::Memory;
 use super::steps::Run;
 use crate::block::{Block, Place, SLOT_COUNT};
@@ -105,7 +106,8 @@ impl State {
 
     /// Whether the address is on a held page of an arena of so many zones.
     pub fn holds(&self, zones: u32, address: u64) -> bool
-        ensures { result ≡ (is_in_arena address zones && is_held self.now.held (page_at address)) }
+        ensures { result ≡ (is_in_arena address zones
+            && is_held self.now.held (page_at address)) }
     {
         is_in_arena(zones, address) && is_held(&self.held, page_at(address))
     }
@@ -115,7 +117,7 @@ impl State {
 pub(super) fn page_at(address: u64) -> u64
     ensures { result ≡ page_at address }
 {
-    address.saturating_sub(FIRST_ADDRESS) / u64::from(PAGE_SIZE)
+    page_of(u128::from(address))
 }
 
 fn is_in_arena(zones: u32, address: u64) -> bool

@@ -17,7 +17,7 @@ use super::picks::starts_place;
 use super::state::{State, is_held};
 use crate::block::{Block, Place, SLOT_COUNT};
 use crate::content::Head;
-use om_geom::{PAGE_SIZE, ZONE_PAGES};
+use om_geom::{PAGE_SIZE, ZONE_PAGES, is_class};
 use std::alloc::AllocError;
 
 impl State {
@@ -124,14 +124,9 @@ fn are_in_arena(zones: u32, pages: &[u32]) -> bool
     pages.iter().all(|page| u64::from(*page) < end)
 }
 
-fn is_class(class: u32) -> bool
-    ensures { result ≡ is_class class }
-{
-    matches!(class, 0 | 16 | 32 | 64 | 128 | 256 | 512 | 1024 | 2048)
-}
-
 fn have_classes(places: &[Place]) -> bool
-    ensures { IsTrue result ↔ AllByRecursion (λ place. IsTrue (is_class place.class)) places.now }
+    ensures { IsTrue result ↔
+        AllByRecursion (λ place. IsTrue (is_class place.class)) places.now }
 {
     places.iter().all(|place| is_class(place.class))
 }

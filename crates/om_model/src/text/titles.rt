@@ -53,7 +53,8 @@ fn flag(on: bool, letter: u8) -> u8
 
 // The letters of the options that are on.
 fn push_flags(out: &mut Vec<u8>, opts: Opts) -> Result<(), AllocError>
-    ensures { OnOk result (out.new.items ≡ out.old.items ++ (codes " flags " ++ flags_text opts)) }
+    ensures { OnOk result (out.new.items ≡ out.old.items ++
+        (codes " flags " ++ flags_text opts)) }
 {
     out.extend_from_slice(b" flags ")?;
     out.extend_from_slice(&[

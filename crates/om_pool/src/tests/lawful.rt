@@ -42,7 +42,7 @@ fn reply_to<R: Abort + Wait>(
 ) -> Result<Reply, AllocError> {
     match choice % 8 {
         0 | 1 => pool.malloc(rt, 2000),
-        2 => pool.malloc(rt, 100),
+        2 => pool.malloc(rt, u64::from(choice) / 8 % 20_000),
         3 => pool.store(rt, some_address(addresses, choice), 7),
         4 => pool.load(rt, some_address(addresses, choice) | 64),
         _ => pool.free(rt, address_to_free(addresses, choice)),
@@ -135,7 +135,7 @@ fn options_of(alloc: Global, letters: &[u8]) -> Result<Opts, AllocError> {
 
 #[test]
 fn strict_journals_are_lawful(rt: HostRuntime) -> Result<(), Fail> {
-    for (seed, letters) in ["CX", "F<<<<<<<", "S"].iter().enumerate() {
+    for (seed, letters) in ["CX", "F<<<<<<<", "GUJ<<<<", "S"].iter().enumerate() {
         let opts = options_of(rt.alloc(), letters.as_bytes())?;
         let seeded = WordPlan::Seeded(seed as u64);
         judge(&rt, rt.alloc(), opts, seeded, WordPlan::Seeded(9))?;

@@ -1,13 +1,10 @@
-//! A pool with the options that it was started with. A call asserts that its size is served, and that the
-//! answer is the one that is wanted.
+//! A pool alone in its arena. A call asserts that the answer is the one that is wanted.
 ghost use Rattle.std.specs.Prelude.{◌≡◌, ◌≤◌};
-ghost use Rattle.std.specs.Option.{is_some};
-ghost use Rattle.om_geom.specs.Classes.{class_of};
 ghost use Rattle.om_geom.specs.Numbers.{most_zones};
 
 use crate::Pool;
 use om_broker::LoneBroker;
-use om_geom::{Addr, MOST_ZONES, class_of};
+use om_geom::{Addr, MOST_ZONES};
 use om_model::{Journal, Reply, Who};
 use om_opts::Opts;
 use om_words::Words;
@@ -19,7 +16,6 @@ use std::test::Fail;
 
 #[derive(Drop)]
 pub(super) struct Trial {
-    opts: Opts,
     pool: Pool<LoneBroker>,
 }
 
@@ -33,8 +29,7 @@ impl Model for Trial {
 
     ghost view = { λ t. t.pool };
 
-    ghost invariant = { λ t. ((t.pool.rules).options ≡ t.opts)
-        × ((t.pool.rules).zones ≤ most_zones)
+    ghost invariant = { λ t. ((t.pool.rules).zones ≤ most_zones)
         × (lone_share ≤ (t.pool.broker).left + length (t.pool.state).held
         + 66 * length (t.pool.journal).items) };
 }
@@ -65,7 +60,7 @@ pub(super) fn pool_in(
 {
     let broker = LoneBroker::new(alloc, zones)?;
     match Pool::start(alloc, opts, words, zones, broker) {
-        Ok(pool) => Ok(Trial { opts, pool }),
+        Ok(pool) => Ok(Trial { pool }),
         Err(_) => Err(AllocError),
     }
 }
@@ -84,7 +79,6 @@ impl Trial {
         rt: &R,
         size: u64,
     ) -> Result<Reply, AllocError> {
-        assert!(rt; serves(self.opts.canary, size));
         assert!(rt; self.pool.journal().len() < 2_000);
         self.pool.reserve()?;
         Ok(self.pool.malloc(rt, who(), size, 0))
@@ -126,13 +120,6 @@ fn who() -> Who
         command: 0,
         hop: 0,
     }
-}
-
-// Whether blocks of the size are served.
-fn serves(canary: bool, size: u64) -> bool
-    ensures { result ≡ is_some (class_of size canary) }
-{
-    class_of(size, canary).is_some()
 }
 
 /// A call on a pool: a size, or an address. A store writes the byte 7.

@@ -8,7 +8,6 @@ ghost use Rattle.om_model.specs.Scripts.Names.{is_letter, is_name_byte, is_name}
 
 use crate::bytes::{cut_at, first_place, is_digit, number_to};
 use crate::script::Request;
-use om_geom::LARGEST_CLASS;
 
 /// The first line and the text after it; none where nothing is left.
 #[tactic(auto, using(crate::proofs::Cuts::line_found, crate::proofs::Cuts::line_whole))]
@@ -123,7 +122,7 @@ fn asked_with(keyword: &[u8], fields: &[u8]) -> Option<Request>
     ensures { result ≡ asked_of keyword.now (fields_of fields.now) }
 {
     if keyword == b"malloc".as_slice() {
-        Some(Request::Malloc(only_number(u64::from(LARGEST_CLASS), fields)?))
+        Some(Request::Malloc(only_number(u64::MAX, fields)?))
     } else if keyword == b"load".as_slice() {
         Some(Request::Load(only_number(u64::MAX, fields)?))
     } else if keyword == b"store".as_slice() {

@@ -18,7 +18,7 @@ fn caches<R: Abort + Threads + Wait + Sync>(
     second: &str,
 ) -> Result<(), Fail> {
     let line = format!(in alloc; "run -o {letters} -w 0")?;
-    let head = format!(in alloc; "junk 1 cache {cache}\nwords list 0\n")?;
+    let head = format!(in alloc; "64 pools 1 flags ------- junk 1 cache {cache}\nwords list 0\n")?;
     let pool = format!(in alloc;
         "01 entries 10
 0 1 0 malloc 2048 @0x0 = block 0x10000 w 0 0 claim 0@1 0+1

@@ -36,8 +36,59 @@ fn arguments_at_the_edges(rt: HostRuntime) -> Result<(), Fail> {
         ("run -w 1,2,3,4,5", "list 1,2,3,4,5", "02 entries 0\n"),
     ];
     for (line, words, pool) in cases {
-        let head = format!(in rt.alloc(); "junk 1 cache 64\nwords {words}\n")?;
+        let head = format!(in rt.alloc();
+            "64 pools 1 flags ------- junk 1 cache 64\nwords {words}\n"
+        )?;
         gives_no_command(&rt, rt.alloc(), line, head.as_str(), pool)?;
+    }
+    Ok(())
+}
+
+// The arguments, and the zones that they give.
+#[test]
+fn zones_are_given(rt: HostRuntime) -> Result<(), Fail> {
+    let cases = [
+        ("run -z 1", 1),
+        ("run -z 64", 64),
+        ("run -z 00000000000000000002", 2),
+        ("run -o  -z 63", 63),
+        ("run -o >< -z 32 -s 0", 32),
+    ];
+    for (line, zones) in cases {
+        let head = format!(in rt.alloc();
+            "{zones} pools 1 flags ------- junk 1 cache 64\nwords seed 0\n"
+        )?;
+        gives_no_command(&rt, rt.alloc(), line, head.as_str(), "5e entries 0\n")?;
+    }
+    Ok(())
+}
+
+// The letters, and the flags that they give.
+#[test]
+fn letters_give_the_flags(rt: HostRuntime) -> Result<(), Fail> {
+    let cases = [
+        ("G", "--G----"),
+        ("U", "----U--"),
+        ("GU", "--G-U--"),
+        ("Gg", "-------"),
+        ("Uf", "-------"),
+        ("fU", "----U--"),
+        ("GUu", "--G----"),
+        ("CFGUcf", "--G----"),
+        ("FGfU", "--G-U--"),
+    ];
+    for (letters, flags) in cases {
+        let line = format!(in rt.alloc(); "run -o {letters} -w 0")?;
+        let head = format!(in rt.alloc();
+            "64 pools 1 flags {flags} junk 1 cache 64\nwords list 0\n"
+        )?;
+        gives_no_command(
+            &rt,
+            rt.alloc(),
+            line.as_str(),
+            head.as_str(),
+            "01 entries 0\n",
+        )?;
     }
     Ok(())
 }
@@ -51,7 +102,9 @@ fn gives_letters<R: Abort + Threads + Wait + Sync>(
     warnings: &str,
 ) -> Result<(), Fail> {
     let line = format!(in alloc; "run -o {letters} -w 0")?;
-    let head = format!(in alloc; "junk {junk} cache {cache}\nwords list 0\n{warnings}")?;
+    let head = format!(in alloc;
+        "64 pools 1 flags ------- junk {junk} cache {cache}\nwords list 0\n{warnings}"
+    )?;
     gives_no_command(rt, alloc, line.as_str(), head.as_str(), "01 entries 0\n")
 }
 

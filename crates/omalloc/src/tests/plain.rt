@@ -21,16 +21,19 @@ use std::test::Fail;
 use std::thread::Threads;
 
 // Commands over four names. A block that is freed is mostly followed by another, and else by a second free some
-// time. Fresh blocks are read at the end of their place, or written.
+// time. Fresh blocks are read at the end of their place, or written; so are those of 1 to 16 pages.
 fn lines_of(alloc: Global, choice: u32) -> Result<String, AllocError> {
     let name = choice % 4;
     let byte = choice % 256;
+    let large = 4096 * (choice / 64 % 16 + 1) - byte;
     match choice / 4 % 16 {
         0 => format!(in alloc; "free v{name}\n"),
         1..=7 => format!(in alloc;
             "free v{name}\nmalloc v{name} 2048\nstore v{name} 2047 {byte}\n"
         ),
-        _ => format!(in alloc; "malloc v{name} 100\nload v{name} 127\n"),
+        8..=11 => format!(in alloc; "malloc v{name} 100\nload v{name} 127\n"),
+        12 => format!(in alloc; "malloc v{name} {large}\nload v{name} 2048\n"),
+        _ => format!(in alloc; "free v{name}\nmalloc v{name} {large}\nstore v{name} 2048 {byte}\n"),
     }
 }
 
@@ -164,5 +167,19 @@ fn the_plain_forms_write_the_same(rt: HostRuntime) -> Result<(), Fail> {
         "run -o <<<<<<<QJ -s 7",
         Status::Finished,
     )?;
-    writes_the_same(&rt, rt.alloc(), 3, "run -s 3", Status::Finished)
+    writes_the_same(&rt, rt.alloc(), 3, "run -s 3", Status::Finished)?;
+    writes_the_same(
+        &rt,
+        rt.alloc(),
+        5,
+        "run -o GU<<< -z 4 -s 4",
+        Status::Finished,
+    )?;
+    writes_the_same(
+        &rt,
+        rt.alloc(),
+        1,
+        "run -o GJ -z 1 -w 31,7",
+        Status::Faulted,
+    )
 }

@@ -23,7 +23,8 @@ fn refuses_line<R: Abort + Threads + Wait + Sync>(
 #[test]
 fn other_lines_are_refused(rt: HostRuntime) -> Result<(), Fail> {
     refuses_line(&rt, rt.alloc(), "", 1)?;
-    refuses_line(&rt, rt.alloc(), "script a\nmalloc x 2049\nend\n", 2)
+    let large = "script a\nmalloc x 18446744073709551616\nend\n";
+    refuses_line(&rt, rt.alloc(), large, 2)
 }
 
 fn refuses_arguments<R: Abort + Threads + Wait + Sync>(
@@ -58,8 +59,8 @@ fn other_arguments_are_refused(rt: HostRuntime) -> Result<(), Fail> {
         "run -o J -s",
         "run -o C",
         "run -o F",
-        "run -o G",
-        "run -o U",
+        "run -o CG",
+        "run -o UF",
         "run -o R",
         "run -o X",
         "run -o D",
@@ -81,7 +82,22 @@ fn other_arguments_are_refused(rt: HostRuntime) -> Result<(), Fail> {
         "run -w 0x1",
         "run -w 0 0",
         "run -w=0",
-        "run -z 64",
+        "run -z",
+        "run -z ",
+        "run -z 0",
+        "run -z 65",
+        "run -z -1",
+        "run -z +1",
+        "run -z 0x1",
+        "run -z 1,2",
+        "run -z 18446744073709551617",
+        "run -z 000000000000000000001",
+        "run -z 1 2",
+        "run -z 1 -z 1",
+        "run -z 1 -o G",
+        "run -w 0 -z 1",
+        "run -o G -z 1 -s",
+        "run -o C -z 1",
         "-w 0 run",
         "Run",
         "run run",

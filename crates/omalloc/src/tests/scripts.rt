@@ -1,35 +1,7 @@
 //! Whole runs of scripts, with outputs that are worked out by hand.
-use super::{SCRIPT, gives_output};
+use super::{Case, LIST_0, SCRIPT, gives_all};
 use crate::status::Status;
-use std::alloc::Global;
-use std::process::Abort;
-use std::sync::Wait;
 use std::test::Fail;
-use std::thread::Threads;
-
-// The arguments and the text, the end, and the three parts of the output.
-struct Case {
-    line: &'static str,
-    text: &'static str,
-    status: Status,
-    head: &'static str,
-    pool: &'static str,
-    outcomes: &'static str,
-}
-
-fn gives_all<R: Abort + Threads + Wait + Sync>(
-    rt: &R,
-    alloc: Global,
-    cases: &[Case],
-) -> Result<(), Fail> {
-    for case in cases {
-        let output = (case.head, case.pool, case.outcomes);
-        gives_output(rt, alloc, case.line, case.text, case.status, output)?;
-    }
-    Ok(())
-}
-
-const LIST_0: &str = "junk 1 cache 64\nwords list 0\n";
 
 // ChaCha8's words for seed 7 and pool 0 begin with 0x2c44ba73, 0xc39ca672, 0xea9d9d65, 0x7747b002.
 const BLOCKS: [Case; 4] = [
@@ -48,7 +20,7 @@ const BLOCKS: [Case; 4] = [
         line: "run -s 7",
         text: SCRIPT,
         status: Status::Finished,
-        head: "junk 1 cache 64\nwords seed 7\n",
+        head: "64 pools 1 flags ------- junk 1 cache 64\nwords seed 7\n",
         pool: "9f entries 2
 0 1 0 malloc 100 @0x0 = block 0x682280 w 3281823346 3936197989 claim 51@1 18+1
 0 2 0 free 0x682280 = done w 2001186818
@@ -60,7 +32,7 @@ const BLOCKS: [Case; 4] = [
         line: "run -w 5",
         text: "script a\nmalloc x 100\nmalloc y 100\nend\n",
         status: Status::Finished,
-        head: "junk 1 cache 64\nwords list 5\n",
+        head: "64 pools 1 flags ------- junk 1 cache 64\nwords list 5\n",
         pool: "06 entries 2
 0 1 0 malloc 100 @0x0 = block 0x15280 w 5 5 claim 0@1 5+1
 0 2 0 malloc 100 @0x0 = block 0x15300 w 5 5
@@ -108,7 +80,7 @@ const BYTES: [Case; 4] = [
         line: "run -o J -w 0",
         text: "script a\nmalloc x 100\nload x 127\nstore x 99 7\nload x 99\nend\n",
         status: Status::Finished,
-        head: "junk 2 cache 64\nwords list 0\n",
+        head: "64 pools 1 flags ------- junk 2 cache 64\nwords list 0\n",
         pool: "01 entries 4
 0 1 0 malloc 100 @0x0 = block 0x10000 w 0 0 claim 0@1 0+1
 0 2 0 load 0x1007f = byte db
@@ -164,7 +136,7 @@ const FREES: [Case; 2] = [
         line: "run -w 0,1",
         text: THRICE,
         status: Status::Faulted,
-        head: "junk 1 cache 64\nwords list 0,1\n",
+        head: "64 pools 1 flags ------- junk 1 cache 64\nwords list 0,1\n",
         pool: "01 entries 4
 0 1 0 malloc 100 @0x0 = block 0x11000 w 1 0 claim 0@1 1+1
 0 2 0 free 0x11000 = done w 1

@@ -12,7 +12,7 @@ loop-i-init g c =
     c.in_ok-values.ensures.items_if_clones_equal (λ y h. h) ∙ ap (λ n. replicate n 0) c.variables.ensures in
     record {
       items = c.commands-command-items.ensures;
-      rules = c.in_ok-pool.ensures.rules ∙ rules_by_head c.head.inside.opts c.head.inside.zones c.head.inside.plan c.head.inside.warned.items c.args.head.now c.in_ok-words.words c.head.view_is c.requires.head.zones c.in_ok-words.ensures;
+      rules = c.in_ok-pool.ensures.rules ∙ rules_by_head c.head.inside.opts c.head.inside.zones c.head.inside.plan c.head.inside.warned.items c.args.head.now c.in_ok-words.words c.head.view_is c.in_ok-words.ensures;
       variables = c.in_ok-values.ensures.len ∙ c.variables.ensures;
       outcomes = ap length c.new-transcript.ensures;
       entries = omega (arith, ap length c.in_ok-pool.ensures.entries);

@@ -5,32 +5,28 @@ use Rattle.om_broker.specs.Claims.{HasFrames}
 use Rattle.om_chunk.specs.Pages.{place_in}
 use Rattle.om_frame.specs.Frames.{zero_frames}
 use Rattle.om_geom.specs.Addresses.{page_at}
-use Rattle.om_model.specs.Pool.Free.{Freed, done_with, evicted, free_at, put_off, slot_of}
+use Rattle.om_model.specs.Pool.Free.{Freed, evicted, free_at, put_off, slot_of}
 use Rattle.om_model.specs.Pool.Rules.{Rules, word_at}
-use Rattle.om_model.specs.Pool.State.{State, drawn_more}
-use Rattle.om_model.specs.Pool.Steps.{Step}
+use Rattle.om_model.specs.Pool.State.{drawn_more, is_held}
 use Rattle.om_model.specs.declared.block.Place.{Place}
 use Rattle.om_model.specs.declared.entry.Entry.TheVariants.{Call}
 use Rattle.om_model.specs.declared.operation.Op.TheVariants.{Free}
 use Rattle.om_model.specs.declared.reply.Reply.TheVariants as reply
 use Rattle.om_model.proofs.Malloc.{drawn_more-sound}
 use Rattle.om_words.specs.DrawnWords.{WordSource}
-use Rattle.om_pool.specs.Asking.{IsLeft}
 use Rattle.om_pool.specs.Chunks.{HoldsPlace}
 use Rattle.om_pool.specs.CoreKept.{core_state}
 use Rattle.om_pool.specs.Free.{IsThere}
 use Rattle.om_pool.specs.HoldingsView.{rules_in, tables_in}
 use Rattle.om_pool.specs.TableSteps.{delayed_place, freed_filled}
 use Rattle.om_pool.specs.Tables.{Tables, StandFor}
-use Rattle.om_pool.specs.Unasked.{no_answers}
+use Rattle.om_pool.specs.Unasked.{unasked_entry}
 use Rattle.om_pool.specs.declared.holdings.Holdings.{Holdings}
 use Rattle.om_pool.specs.declared.pool_core.Core.{Core}
-use Rattle.om_pool.proofs.CallLaws.{backed-let_go, lets-has}
-use Rattle.om_pool.proofs.CoreLaws.{core-served, core-sound, core_drawn, entry_with, kept, left_after, same-rules, taken}
-use Rattle.om_pool.proofs.FreeLaws.{GivesOf, delay-is, filled-rules, filled-tables, filled-words, gone-is_held, gone-there, has-evicted, if-some, left_tables, lives, place-bytes, put-off-leaves}
-use Rattle.om_pool.proofs.Spending.{uses-left}
+use Rattle.om_pool.proofs.CallLaws.{lets-has}
+use Rattle.om_pool.proofs.CoreLaws.{core-sound, core_drawn, same-rules}
+use Rattle.om_pool.proofs.FreeLaws.{GivesOf, delay-is, free-done, filled-rules, filled-tables, filled-words, gone-is_held, gone-there, has-evicted, if-some, left_tables, lives, place-bytes, put-off-leaves}
 use Rattle.om_pool.proofs.TablePages.{words-drawn}
-use Rattle.om_pool.proofs.UnaskedLaws.{unasked-does}
 use Rattle.om_pool.proofs.pool_core.Core.delay.Goals as goal
 
 pub draw-word-requires : goal.draw-word-requires
@@ -40,21 +36,21 @@ pub delay-before-requires-clause-place : goal.delay-before-requires-clause-place
 delay-before-requires-clause-place g c =
     let old = c.args.self.now in
     let place = c.args.place in
-    let here = lives (rules_in old.state) (tables_in old.state) (core_state old) (core-sound old c.requires.kept) c.requires.kept.tables (core-served old c.requires.kept) c.args.address place c.requires.live.0 c.requires.live.1 in
+    let here = lives (rules_in old.state) (tables_in old.state) (core_state old) (core-sound old c.requires.kept) c.requires.kept.tables c.args.address place c.requires.live.0 c.requires.live.1 in
     ap (λ (x : Holdings). is_some (place_in x.chunks.pages place.address)) c.draw-word.ensures.same
     ∙ ap (λ a. is_some (place_in old.state.chunks.pages a)) here.place_is ∙ ap is_some here.has_is
 
 pub fill_freed-requires-clause-class : goal.fill_freed-requires-clause-class
 fill_freed-requires-clause-class g c =
     let old = c.args.self.now in
-    (lives (rules_in old.state) (tables_in old.state) (core_state old) (core-sound old c.requires.kept) c.requires.kept.tables (core-served old c.requires.kept) c.args.address c.args.place c.requires.live.0 c.requires.live.1).class_is
+    (lives (rules_in old.state) (tables_in old.state) (core_state old) (core-sound old c.requires.kept) c.requires.kept.tables c.args.address c.args.place c.requires.live.0 c.requires.live.1).class_is
 
 pub fill_freed-requires-clause-bytes : goal.fill_freed-requires-clause-bytes
 fill_freed-requires-clause-bytes g c =
     let old = c.args.self.now in
     let Holds : List (List ℕ) → Type 0 = λ m. HoldsPlace m c.args.place in
     subst Holds (sym (ap (λ (t : Tables). t.memory) c.delay-before.ensures.tables ∙ ap (λ (x : Holdings). x.shelf) c.draw-word.ensures.same))
-    (place-bytes (rules_in old.state) (tables_in old.state) (core_state old) (core-sound old c.requires.kept) c.requires.kept.tables (core-served old c.requires.kept) c.args.address c.args.place c.requires.live.0 c.requires.live.1)
+    (place-bytes (rules_in old.state) (tables_in old.state) (core_state old) (core-sound old c.requires.kept) c.requires.kept.tables c.args.address c.args.place c.requires.live.0 c.requires.live.1)
 
 pub evict-release-requires-clause-place : goal.evict-release-requires-clause-place
 evict-release-requires-clause-place g c =
@@ -69,7 +65,7 @@ evict-release-requires-clause-place g c =
     let fills = c.fill_freed.ensures in
     let was = sym (waits.before ∙ ap (λ (x : Holdings). slice_index_or x.slots slot None) draws ∙ ap (λ (slots : List (Option Place)). slice_index_or slots slot None) is.tables.slots) in
     if-some (IsThere c.fill_freed.new.self) c.delay-before.result (λ gone gone_is.
-    gone-there rules tables (drawn_more 1 start) (drawn_more-sound rules 1 start (core-sound old is)) (words-drawn rules tables start is.tables 1) (core-served old is) c.args.address c.args.place c.requires.live.0 c.requires.live.1
+    gone-there rules tables (drawn_more 1 start) (drawn_more-sound rules 1 start (core-sound old is)) (words-drawn rules tables start is.tables 1) c.args.address c.args.place c.requires.live.0 c.requires.live.1
     slot (mod_below c.draw-word.result 16 (omega arith)) gone (was ∙ gone_is) c.fill_freed.new.self
     (filled-tables old.state c.draw-word.new.self c.delay-before.new.self c.fill_freed.new.self slot c.args.place draws waits.tables waits.same fills.tables fills.same) is.few_zones)
 
@@ -84,10 +80,12 @@ evict-release-requires-clause-has g c =
     let slot : ℕ = c.draw-word.result % 16 in
     let was = sym (c.delay-before.ensures.before ∙ ap (λ (x : Holdings). slice_index_or x.slots slot None) c.draw-word.ensures.same ∙ ap (λ (slots : List (Option Place)). slice_index_or slots slot None) is.tables.slots) in
     if-some (λ place. HasFrames (g.B.Broker.made b) (zero_frames (page_at place.address) 1)) c.delay-before.result (λ gone gone_is.
-    lets-has g.B.Broker rules start.held old.journal.items b (page_at gone.address) (zero_frames (page_at gone.address) 1) c.requires.backed
-    (gone-is_held rules tables (drawn_more 1 start) (drawn_more-sound rules 1 start (core-sound old is)) (words-drawn rules tables start is.tables 1) (core-served old is) c.args.address c.args.place c.requires.live.0 c.requires.live.1
-    slot (mod_below c.draw-word.result 16 (omega arith)) gone (was ∙ gone_is))
-    refl)
+    lets-has g.B.Broker rules start.held old.journal.items b (page_at gone.address) 1 (omega arith) c.requires.backed
+    (λ page low high.
+    let same : page ≡ page_at gone.address = omega arith in
+    ap (is_held start.held) same
+    ∙ gone-is_held rules tables (drawn_more 1 start) (drawn_more-sound rules 1 start (core-sound old is)) (words-drawn rules tables start is.tables 1) c.args.address c.args.place c.requires.live.0 c.requires.live.1
+    slot (mod_below c.draw-word.result 16 (omega arith)) gone (was ∙ gone_is)))
 
 pub returns : goal.returns
 returns g c =
@@ -119,14 +117,13 @@ returns g c =
     let Gives : Rules → Tables → Type 0 = λ r t. GivesOf g.B.Broker r t b b_new before release in
     let gives : Gives rules filled = subst (Gives rules) is_filled (subst (λ r. Gives r (tables_in own)) ruled evicts.gives) in
     let left : Freed = evicted rules (put_off rules state slot place) before in
-    let leaves = put-off-leaves rules tables state (drawn_more-sound rules 1 start (core-sound old is)) (words-drawn rules tables start is.tables 1) (core-served old is) c.args.address place c.requires.live.0 c.requires.live.1
+    let leaves = put-off-leaves rules tables state (drawn_more-sound rules 1 start (core-sound old is)) (words-drawn rules tables start is.tables 1) c.args.address place c.requires.live.0 c.requires.live.1
     slot (mod_below c.draw-word.result 16 (omega arith)) g.B.Broker before was b b_new release gives in
     let stood : tables_in new.state ≡ left_tables rules filled before =
     ap (λ (x : Core). tables_in x.state) same ∙ evicts.tables ∙ ap (λ r. left_tables r (tables_in own) before) ruled ∙ ap (λ t. left_tables rules t before) is_filled in
     let Stands : Tables → Type 0 = λ t. StandFor rules t left.next in
     let step_is = ap (free_at rules start c.args.address) c.requires.live.1 ∙ delay-is rules start place slot before (ap (λ w. w % 16) word) (sym was) in
-    let added = c.enter_free.ensures.added ∙ ap (λ (x : Core). x.journal.items ++ Call (entry_with c.args.who (Free c.args.address) reply.Done c.one.result no_answers release) ∷ []) evicts.same in
-    let does = unasked-does old new c.args.who (Free c.args.address) reply.Done _ (done_with 1 left) c.one.result release is
+    let done = free-done g.B.Broker old new b b_new c.args.who c.args.address 1 c.one.result left release is c.requires.backed
     (record {
       wish = refl;
       whole_is = refl;
@@ -139,13 +136,5 @@ returns g c =
       canary = ap (λ (x : Core). x.canary) same ∙ ap (λ (x : Core). x.canary) evicts.same;
       room = ap (λ (x : Core). x.room) same ∙ ap (λ (x : Core). x.room) evicts.same;
     })
-    refl added in
-    let after : (core_state new).held ≡ (left.next).held = ap (λ (s : State). s.held) (left_after old new _ _ _ _ _ _ _ is does) ∙ ap (λ (s : Step). (s.next).held) step_is in
-    let Left : List ℕ → Type 0 = λ pages. IsLeft g.B.Broker b b_new start.held pages release in
-    let left_is : IsLeft g.B.Broker b b_new start.held (core_state new).held release = subst Left (sym after) leaves.broker in
-    record {
-      kept = kept old new _ _ _ _ _ _ _ is does;
-      backed = backed-let_go g.B.Broker old new b b_new c.args.who (Free c.args.address) reply.Done c.one.result release does.rules left_is added c.requires.backed;
-      uses = uses-left g.B.Broker old new b b_new c.args.who (Free c.args.address) reply.Done c.one.result release added (core-sound old is).ascends left_is refl;
-      taken = taken old new _ _ _ _ _ _ _ is does;
-    }
+    leaves.broker (c.enter_free.ensures.added ∙ ap (λ (x : Core). x.journal.items ++ Call (unasked_entry c.args.who (Free c.args.address) reply.Done c.one.result release) ∷ []) evicts.same) in
+    record { kept = done.kept; backed = done.backed; uses = done.uses; taken = done.taken }

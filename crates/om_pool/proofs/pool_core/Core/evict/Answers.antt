@@ -19,13 +19,13 @@ overflow_cast-page_at g c =
     let here : IsThere c.args.self.now.state c.in_ok-place.place = subst There c.in_ok-place.was c.requires.place in
     omega (arith, here.low, c.page_at.ensures)
 
-pub leave-frames-requires-clause-free : goal.leave-frames-requires-clause-free
-leave-frames-requires-clause-free g c =
+pub keep_or_release-requires-clause-free : goal.keep_or_release-requires-clause-free
+keep_or_release-requires-clause-free g c =
     let own = c.args.self.now.state in
     let There : Option Place → Type 0 = λ o. IfSome o (IsThere own) in
     let here : IsThere own c.in_ok-place.place = subst There c.in_ok-place.was c.requires.place in
     let page = page_at c.in_ok-place.place.address in
-    let goes : page_goes (tables_in own) c.in_ok-place.place.address ≡ true = sym c.set_free.ensures.goes ∙ c.if-set_free.true in
+    let goes : page_goes (tables_in own) c.in_ok-place.place.address ≡ true = sym c.set_free.ensures.goes ∙ c.if-not-set_free.false in
     let pages = ap (λ (t : Tables). t.pages) c.set_free.ensures.tables ∙ ap (λ b. if b then with_run own.pages page 1 page_is.Free else own.pages) goes in
     let All : List PageKind → Type 0 = λ t. AreAll is_free t page 1 in
     let low = (here.held page (omega arith) (omega arith)).0 in

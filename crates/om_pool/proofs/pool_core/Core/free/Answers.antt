@@ -2,11 +2,12 @@ use Rattle.std.proofs.Common.{sym, ap, ◌∙◌}
 use mathlib.Core.Logic.{⊎_elim}
 use Rattle.om_model.specs.Pool.Standing as at
 use Rattle.om_model.specs.declared.operation.Op.TheVariants.{Free}
-use Rattle.om_pool.specs.Standing.{standing_of}
 use Rattle.om_pool.proofs.CallLaws.{backed-quiet}
 use Rattle.om_pool.specs.PoolView.{says_no_run}
+use Rattle.om_pool.specs.declared.standing.Standing.TheVariants as code
 use Rattle.om_pool.proofs.CoreLaws.{core-tied}
-use Rattle.om_pool.proofs.FreeLaws.{frees-at, stands-at}
+use Rattle.om_pool.proofs.FreeBlock.{block-at}
+use Rattle.om_pool.proofs.FreeLaws.{frees-at, means-at}
 use Rattle.om_pool.proofs.Spending.{uses-quiet}
 use Rattle.om_pool.proofs.pool_core.Core.free.Goals as goal
 
@@ -14,31 +15,36 @@ pub standing-requires : goal.standing-requires
 standing-requires g c = core-tied c.args.self.now c.requires.kept
 
 pub answer-requires-clause-is : goal.answer-requires-clause-is
-answer-requires-clause-is g c = frees-at c.args.self.now c.requires.kept c.args.address at.NotHeld (sym (ap standing_of c.in-NotHeld.is) ∙ c.standing.ensures)
+answer-requires-clause-is g c = frees-at c.args.self.now c.args.address at.NotHeld (means-at c.args.self.now c.args.address c.requires.kept code.NotHeld (sym c.in-NotHeld.is ∙ c.standing.ensures))
 
 pub answer-requires-in-FreePage-clause-is : goal.answer-requires-in-FreePage-clause-is
 answer-requires-in-FreePage-clause-is g c = ⊎_elim
-    (λ is. frees-at c.args.self.now c.requires.kept c.args.address at.FreePage (sym (ap standing_of is) ∙ c.standing.ensures))
+    (λ is. frees-at c.args.self.now c.args.address at.FreePage (means-at c.args.self.now c.args.address c.requires.kept code.FreePage (sym is ∙ c.standing.ensures)))
     (⊎_elim
-    (λ is. frees-at c.args.self.now c.requires.kept c.args.address at.InPageBlock (sym (ap standing_of is) ∙ c.standing.ensures))
-    (λ is. frees-at c.args.self.now c.requires.kept c.args.address at.OnGuard (sym (ap standing_of is) ∙ c.standing.ensures)))
+    (λ is. frees-at c.args.self.now c.args.address at.InPageBlock (means-at c.args.self.now c.args.address c.requires.kept code.InPageBlock (sym is ∙ c.standing.ensures)))
+    (λ is. frees-at c.args.self.now c.args.address at.OnGuard (means-at c.args.self.now c.args.address c.requires.kept code.OnGuard (sym is ∙ c.standing.ensures))))
     c.in-FreePage.is
 
 pub answer-requires-in-Unaligned-clause-is : goal.answer-requires-in-Unaligned-clause-is
-answer-requires-in-Unaligned-clause-is g c = frees-at c.args.self.now c.requires.kept c.args.address at.Unaligned (sym (ap standing_of c.in-Unaligned.is) ∙ c.standing.ensures)
+answer-requires-in-Unaligned-clause-is g c = frees-at c.args.self.now c.args.address at.Unaligned (means-at c.args.self.now c.args.address c.requires.kept code.Unaligned (sym c.in-Unaligned.is ∙ c.standing.ensures))
 
 pub answer-requires-in-FreePlace-clause-is : goal.answer-requires-in-FreePlace-clause-is
-answer-requires-in-FreePlace-clause-is g c = frees-at c.args.self.now c.requires.kept c.args.address at.FreePlace (sym (ap standing_of c.in-FreePlace.is) ∙ c.standing.ensures)
+answer-requires-in-FreePlace-clause-is g c = frees-at c.args.self.now c.args.address at.FreePlace (means-at c.args.self.now c.args.address c.requires.kept code.FreePlace (sym c.in-FreePlace.is ∙ c.standing.ensures))
 
 pub free_again-requires-clause-is : goal.free_again-requires-clause-is
 free_again-requires-clause-is g c =
-    frees-at c.args.self.now c.requires.kept c.args.address (at.DelayedPlace c.in-DelayedPlace.place) (sym (ap standing_of c.in-DelayedPlace.is) ∙ c.standing.ensures)
+    let place = c.in-DelayedPlace.place in
+    frees-at c.args.self.now c.args.address (at.DelayedPlace place) (means-at c.args.self.now c.args.address c.requires.kept (code.DelayedPlace place) (sym c.in-DelayedPlace.is ∙ c.standing.ensures))
 
 pub delay-requires-clause-live : goal.delay-requires-clause-live
-delay-requires-clause-live g c = (
-  c.in-LivePlace.block,
-  stands-at c.args.self.now c.requires.kept c.args.address (at.LivePlace c.in-LivePlace.place c.in-LivePlace.block) (sym (ap standing_of c.in-LivePlace.is) ∙ c.standing.ensures),
-)
+delay-requires-clause-live g c =
+    let live = c.in-LivePlace in
+    (live.block, means-at c.args.self.now c.args.address c.requires.kept (code.LivePlace live.place live.block) (sym live.is ∙ c.standing.ensures))
+
+pub free_block-requires-clause-block : goal.free_block-requires-clause-block
+free_block-requires-clause-block g c =
+    let here = c.in-PageBlock in
+    block-at c.args.self.now c.requires.kept c.args.address here.first here.pages (sym here.is ∙ c.standing.ensures)
 
 pub returns-in-NotHeld-clause-backed : goal.returns-in-NotHeld-clause-backed
 returns-in-NotHeld-clause-backed g c = backed-quiet g.B.Broker c.args.self.now c.answer.new.self c.args.broker.now c.args.who (Free c.args.address) c.answer.result c.answer.ensures.quiet c.requires.backed
