@@ -6,7 +6,7 @@ use Rattle.std.proofs.lemmas.List.Sums.{sum_by-cons}
 use Rattle.om_geom.specs.Fit.{is_in_run}
 use mathlib.Core.Logic.{⊎_elim}
 
-abbrev tally : Bool → ℕ
+abbrev pub tally : Bool → ℕ
 tally b = cond b 1 0
 
 -- ---- an element

@@ -7,24 +7,18 @@ use Rattle.std.proofs.lemmas.List.Folds.{find-append}
 use Rattle.std.proofs.lemmas.List.Sums.{sum_by-cons, sum_by_push}
 use Rattle.om_geom.specs.BitLaws.{fit_of-same}
 use Rattle.om_geom.specs.Fit.{searched_bit}
-use Rattle.om_model.proofs.Each.{all-weaker, all-both}
+use Rattle.om_model.proofs.Each.{all-weaker, all-both, find-nothing}
 use Rattle.om_model.specs.declared.entry.ZoneMove.{ZoneMove}
 use Rattle.om_model.specs.Zones.Order.{IsNumbered, IsZoneOrder, IsLawfulMove, is_at, last_version, owner, owner_after, fit_at}
 use Rattle.om_broker.specs.ZoneStand.{IsOwnMove}
 use mathlib.Core.Logic.{⊎_elim}
+use Rattle.om_broker.proofs.Lists.{tally}
 
 -- ---- each element of a list
 
 pub all_push : {X : Type 0} (P : X → Type 0) (xs : List X) (y : X) → AllByRecursion P xs → P y → AllByRecursion P (xs ++ y ∷ [])
 all_push P [] y all last = (last, tt)
 all_push P (x ∷ xs) y all last = (all.0, all_push P xs y all.1 last)
-
-find-none : {X : Type 0} (test : X → Bool) (xs : List X) → AllByRecursion (λ x. test x ≡ false) xs → find test xs ≡ None
-find-none test [] all = refl
-find-none test (x ∷ xs) all = ap (λ b. cond b (Some x) (find test xs)) all.0 ∙ find-none test xs all.1
-
-abbrev tally : Bool → ℕ
-tally b = cond b 1 0
 
 count_by-none : {X : Type 0} (test : X → Bool) (xs : List X) → AllByRecursion (λ x. test x ≡ false) xs → count_by test xs ≡ 0
 count_by-none test [] all = refl
@@ -133,7 +127,7 @@ module _ (zones : ℕ) (moves : List ZoneMove) (m : ZoneMove) (own : AllByRecurs
         let zone : ℕ = m.made.zone in
         let last : ℕ = last_version moves zone in
         ap (λ u. owner (moves ++ m ∷ []) zone u bit) (add-one last)
-        ∙ ap (λ o. owner_after o bit (owner (moves ++ m ∷ []) zone last bit)) (find-push_first (is_at zone (suc last)) moves m (find-none _ moves (not_yet zone)) (is_at-true zone (suc last) m refl (omega arith)))
+        ∙ ap (λ o. owner_after o bit (owner (moves ++ m ∷ []) zone last bit)) (find-push_first (is_at zone (suc last)) moves m (find-nothing _ moves (not_yet zone)) (is_at-true zone (suc last) m refl (omega arith)))
         ∙ ap (λ o. owner_after (Some m) bit o) (owner-stable moves m zone bit last next (omega arith))
 
     module _ (order : IsZoneOrder moves) where

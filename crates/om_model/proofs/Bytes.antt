@@ -14,7 +14,8 @@ use Rattle.om_geom.specs.declared.address.Extent.{Extent}
 use Rattle.om_geom.specs.Numbers.{page_size, zone_pages}
 use Rattle.om_geom.specs.Classes.{data_pages}
 use Rattle.om_model.specs.Pool.Junk.{fresh_byte, freed_byte, freed_len, data_extent, extent_of_place, with_fresh_junk, with_freed_place, with_freed_pages}
-use Rattle.om_model.specs.Pool.Rules.{Rules}
+use Rattle.om_model.specs.Pool.Canaries.{canaries, with_canaries}
+use Rattle.om_model.specs.Pool.Rules.{Rules, canary_byte}
 use Rattle.om_model.specs.Pool.Runs.{Run, is_page_of}
 use Rattle.om_model.specs.Pool.State.{State, opening, is_held, with_run, without_run, with_pages, without_pages, filled_with, written}
 use Rattle.om_model.specs.Pool.WellFormed.{HasBytes}
@@ -22,6 +23,7 @@ use Rattle.om_model.specs.declared.block.Block.{Block}
 use Rattle.om_model.specs.declared.block.Place.{Place}
 use Rattle.om_model.proofs.Held.{held-with_run, held-without_run}
 use Rattle.om_model.proofs.Sound.{IsSound}
+use Rattle.std.proofs.Math.Bool.{and-false, and-true, or-false, or-true}
 
 -- ---- pages that come and go
 
@@ -60,22 +62,6 @@ emptied memory first (suc n) page low high =
     (λ other. emptied next (first + 1) n page (omega arith) (omega arith))
     (cases_eq page first)
 
-or_true : (b : Bool) → (b || true) ≡ true
-or_true true = refl
-or_true false = refl
-
-or_false : (b : Bool) → (b || false) ≡ b
-or_false true = refl
-or_false false = refl
-
-and_true : (b : Bool) → (b && true) ≡ b
-and_true true = refl
-and_true false = refl
-
-and_false : (b : Bool) → (b && false) ≡ false
-and_false true = refl
-and_false false = refl
-
 module _ (state : State) (run : Run) where
   within : (page : ℕ) → is_page_of run page ≡ true → (run.first ≤ page) × (page < run.first + run.count)
   within page inside =
@@ -91,11 +77,11 @@ module _ (state : State) (run : Run) where
         let held : is_held (with_run run state.held) page ≡ (is_held state.held page || is_page_of run page) = held-with_run run state.held page in
         ⊎_elim
         (λ (t : is_page_of run page ≡ true).
-        let inside : (is_held state.held page || is_page_of run page) ≡ true = rw t (or_true (is_held state.held page)) in
+        let inside : (is_held state.held page || is_page_of run page) ≡ true = rw t (or-true (is_held state.held page)) in
         let parts = within page t in
         rw (held, inside, page_bytes-with_zeros state.memory run.first run.count page parts.0 parts.1 fits) long)
         (λ (f : is_page_of run page ≡ false).
-        let same : (is_held state.held page || is_page_of run page) ≡ is_held state.held page = rw f (or_false (is_held state.held page)) in
+        let same : (is_held state.held page || is_page_of run page) ≡ is_held state.held page = rw f (or-false (is_held state.held page)) in
         rw (held, same, page_bytes-with_frames state.memory (frames.zero_frames run.first run.count) page (elsewhere frames.zero_frame (λ p. refl) run.first run.count page (outside page f))) (bytes page))
         (cases_Bool (is_page_of run page))
 
@@ -104,11 +90,11 @@ module _ (state : State) (run : Run) where
         let held : is_held (without_run run state.held) page ≡ (is_held state.held page && not (is_page_of run page)) = held-without_run run state.held page in
         ⊎_elim
         (λ (t : is_page_of run page ≡ true).
-        let none : (is_held state.held page && not (is_page_of run page)) ≡ false = rw t (and_false (is_held state.held page)) in
+        let none : (is_held state.held page && not (is_page_of run page)) ≡ false = rw t (and-false (is_held state.held page)) in
         let parts = within page t in
         rw (held, none, emptied state.memory run.first run.count page parts.0 parts.1) refl)
         (λ (f : is_page_of run page ≡ false).
-        let same : (is_held state.held page && not (is_page_of run page)) ≡ is_held state.held page = rw f (and_true (is_held state.held page)) in
+        let same : (is_held state.held page && not (is_page_of run page)) ≡ is_held state.held page = rw f (and-true (is_held state.held page)) in
         rw (held, same, page_bytes-with_frames state.memory (map empty_frame (range_with_len run.first run.count)) page (elsewhere empty_frame (λ p. refl) run.first run.count page (outside page f))) (bytes page))
         (cases_Bool (is_page_of run page))
 
@@ -145,6 +131,10 @@ module _ (rules : Rules) (state : State) (is : IsSound rules state) where
   unfolding with_fresh_junk
   fresh-sound block = either (rules.options.junk == 2) _ state (filled-sound fresh_byte (data_extent rules block)) is
 
+  pub canary-sound : (block : Block) → IsSound rules (with_canaries rules block state)
+  unfolding with_canaries
+  canary-sound block = filled-sound (canary_byte rules) (canaries rules block)
+
   pub freed_pages-sound : (block : Block) → IsSound rules (with_freed_pages rules block state)
   unfolding with_freed_pages
   freed_pages-sound block = filled-sound freed_byte (record { first = block.address; len = freed_len rules.options.junk (data_pages block.size) })
@@ -162,6 +152,10 @@ either-drawn false this other same = refl
 pub fresh-drawn : (rules : Rules) (block : Block) (state : State) → (with_fresh_junk rules block state).drawn ≡ state.drawn
 unfolding with_fresh_junk
 fresh-drawn rules block state = either-drawn (rules.options.junk == 2) (filled_with fresh_byte (data_extent rules block) state) state refl
+
+pub canary-drawn : (rules : Rules) (block : Block) (state : State) → (with_canaries rules block state).drawn ≡ state.drawn
+unfolding with_canaries
+canary-drawn rules block state = refl
 
 pub freed-drawn : (rules : Rules) (place : Place) (state : State) → (with_freed_place rules place state).drawn ≡ state.drawn
 unfolding with_freed_place

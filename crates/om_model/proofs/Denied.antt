@@ -1,7 +1,8 @@
 -- A null and a fault release nothing, and change nothing but the words drawn.
 use Rattle.std.proofs.Common.{◌≡◌, ℕ, ◌+◌, Bool, true, false, Option, Some, None, if◌then◌else◌, refl, ap, arith}
 use Rattle.om_model.specs.Pool.Access.{barred, load_unless, load, store_unless, store}
-use Rattle.om_model.specs.Pool.Free.{delay, freed_again, free_at, free}
+use Rattle.om_model.specs.Pool.Canaries.{broken_canary}
+use Rattle.om_model.specs.Pool.Free.{delay, delay_unless, freed_again, free_at, free}
 use Rattle.om_model.specs.Pool.Malloc.{words_for, is_too_large, page_for, placed_where, placing, block_placed, malloc}
 use Rattle.om_model.specs.Pool.Rules.{Rules, word_at}
 use Rattle.om_model.specs.Pool.Standing.{Standing, NotHeld, FreePage, PageBlock, InPageBlock, OnGuard, LivePlace, DelayedPlace, FreePlace, Unaligned, standing}
@@ -36,7 +37,11 @@ at-keeps rules state address FreePage denied = unchanged-keeps state (Fault Bogu
 at-keeps rules state address (PageBlock block) denied = cc
 at-keeps rules state address InPageBlock denied = unchanged-keeps state (Fault Bogus) denied
 at-keeps rules state address OnGuard denied = unchanged-keeps state (Fault Bogus) denied
-at-keeps rules state address (LivePlace place block) denied = cc
+at-keeps rules state address (LivePlace place block) denied = by (broken_canary rules state block) denied
+  where
+    by : (broken : Option ℕ) → KeepsWhereDenied state (delay_unless broken rules state place)
+    by (Some offset) = λ told. (refl, refl)
+    by None = λ also. cc
 at-keeps rules state address (DelayedPlace place) denied = (refl, refl)
 at-keeps rules state address FreePlace denied = unchanged-keeps state (Fault AlreadyFree) denied
 at-keeps rules state address Unaligned denied = unchanged-keeps state (Fault ModifiedPointer) denied

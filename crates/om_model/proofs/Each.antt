@@ -1,5 +1,5 @@
 -- What holds of each element of a list, and of each pair, where the list is filtered or gets one more.
-use Rattle.std.proofs.Common.{◌≡◌, ℕ, zero, suc, ◌+◌, ◌<◌, Bool, true, false, ◌||◌, List, [], ◌∷◌, ◌++◌, cond, Some, refl, subst, arith}
+use Rattle.std.proofs.Common.{◌≡◌, ℕ, zero, suc, ◌+◌, ◌<◌, Bool, true, false, ◌||◌, List, [], ◌∷◌, ◌++◌, cond, Some, None, refl, subst, arith}
 use Rattle.std.specs.List.{list_any, filter, find, slice_get, range_with_len, AllByRecursion}
 use Rattle.std.proofs.lemmas.Bool.{cases_Bool, or_left}
 use mathlib.Core.Logic.{⊎_elim}
@@ -163,3 +163,16 @@ pairs-between R new xs ys swap own others pairs =
     (pairs-second R xs ys pairs)
     (all-append (λ x. AllByRecursion (R x) ys) xs new (pairs-across R xs ys pairs)
     (all-weaker (λ u. AllByRecursion (R u) (xs ++ ys)) (λ u. AllByRecursion (R u) ys) new (λ u. all-second (R u) xs ys) others))
+
+-- ---- searches
+
+pub find-nothing : {X : Type 0} (test : X → Bool) (xs : List X) → AllByRecursion (λ x. test x ≡ false) xs → find test xs ≡ None
+find-nothing test [] all = refl
+find-nothing test (x ∷ xs) all = rw all.0 (find-nothing test xs all.1)
+
+pub none-found : {X : Type 0} (test : X → Bool) (xs : List X) → find test xs ≡ None → AllByRecursion (λ x. test x ≡ false) xs
+none-found test [] none = tt
+none-found test (x ∷ xs) none = ⊎_elim
+    (λ t. let isnt : Some x ≡ None = rw t at none in cc)
+    (λ f. (f, none-found test xs (rw f at none)))
+    (cases_Bool (test x))

@@ -17,7 +17,8 @@ use Rattle.om_model.specs.Pool.State.{State, delayed, drawn_more, holds, without
 use Rattle.om_model.specs.Pool.InUse.{Kind, Chunk, Pages, Guard, Use, use_of_place, data_of, guard_of, uses_by_class, uses_of_block, uses, touches, is_free_page, page_kind}
 use Rattle.om_model.specs.Pool.Picks.{starts_place}
 use Rattle.om_model.specs.Pool.Standing.{PageBlock, Unaligned, NotHeld, block_at, delayed_at, in_pages, at_place, on_page}
-use Rattle.om_model.specs.Pool.Free.{is_surplus, kept_or_let_go, evicted, without_block, drawn_slot, slot_of, into_slot, put_off, delay, freed_again, free_at, free}
+use Rattle.om_model.specs.Pool.Canaries.{broken_canary}
+use Rattle.om_model.specs.Pool.Free.{is_surplus, kept_or_let_go, evicted, without_block, drawn_slot, slot_of, into_slot, put_off, delay, delay_unless, freed_again, free_at, free}
 use Rattle.om_model.specs.Pool.WellFormed.{EachPair, AreAlike, AreApart, AgreeOnPages, FitsZone}
 use Rattle.om_model.specs.declared.block.Block.{Block}
 use Rattle.om_model.specs.declared.block.Place.{Place}
@@ -32,7 +33,7 @@ use Rattle.om_model.proofs.Malloc.{drawn_more-sound, guard_count, pages-uses}
 -- ---- slots, of which one is set
 
 -- what waits in the slots
-abbrev waiting : List (Option Place) → List Use
+abbrev pub waiting : List (Option Place) → List Use
 waiting slots = map use_of_place (delayed slots)
 
 pub all-slot : (P : Use → Type 0) (new : Place) (slots : List (Option Place)) (k : ℕ) → P (use_of_place new) → AllByRecursion P (waiting slots) → AllByRecursion P (waiting (slice_set slots k (Some new)))
@@ -124,12 +125,12 @@ page-untouched one other page low high apart = ⊎_elim
 -- ---- a block that leaves
 
 -- what gives the page its kind
-record HasKind (found : Option Use) (kind : Kind) : Type 0 where
-  one : Use
-  is : found ≡ Some one
-  same : one.kind ≡ kind
+pub record HasKind (found : Option Use) (kind : Kind) : Type 0 where
+  pub one : Use
+  pub is : found ≡ Some one
+  pub same : one.kind ≡ kind
 
-has-kind : (found : Option Use) (kind : Kind) → option_map (λ (one : Use). one.kind) found ≡ Some kind → HasKind found kind
+pub has-kind : (found : Option Use) (kind : Kind) → option_map (λ (one : Use). one.kind) found ≡ Some kind → HasKind found kind
 has-kind None kind e = cc
 has-kind (Some one) kind e = record { one = one; is = refl; same = cc }
 
@@ -336,10 +337,15 @@ module _ (rules : Rules) (state : State) (is : IsSound rules state) where
     unfolding freed_again
     again-sound = drawn_more-sound rules 1 state is
 
+    unless-sound : (class : ℕ) (block : Block) (broken : Option ℕ) → page_kind (uses rules state) (page_at address) ≡ Some (Chunk class) → block_at state address ≡ Some block
+        → IsSound rules ((delay_unless broken rules state (record { address = address; class = class })).next)
+    unless-sound class block (Some offset) found live_is = drawn_more-sound rules 1 state is
+    unless-sound class block None found live_is = delay-sound address block live_is class found
+
     place-sound : (class : ℕ) (live : Option Block) (put : Option Place) → page_kind (uses rules state) (page_at address) ≡ Some (Chunk class) → block_at state address ≡ live
         → IsSound rules ((free_at rules state address (at_place class address live put)).next)
     place-sound class live (Some place) found live_is = again-sound
-    place-sound class (Some block) None found live_is = delay-sound address block live_is class found
+    place-sound class (Some block) None found live_is = unless-sound class block (broken_canary rules state block) found live_is
     place-sound class None None found live_is = is
 
     start-sound : (class : ℕ) (starts : Bool) → page_kind (uses rules state) (page_at address) ≡ Some (Chunk class)

@@ -18,6 +18,8 @@ use Rattle.om_model.specs.Pool.State.{State, delayed, drawn_more, is_held, with_
 use Rattle.om_model.specs.Pool.InUse.{Pages, Guard, Use, use_of_place, data_of, guard_of, uses_of_pages, uses_by_class, uses_of_block, uses, touches}
 use Rattle.om_model.specs.Pool.Picks.{own_page, picked_place, place_address}
 use Rattle.om_model.specs.Pool.Steps.{Nothing, Answers, unchanged, null_or_fault}
+use Rattle.om_model.specs.Pool.Canaries.{with_canaries}
+use Rattle.om_model.specs.Pool.Junk.{with_fresh_junk}
 use Rattle.om_model.specs.Pool.Malloc.{pages_by_class, pages_for, words_by_class, words_for, is_too_large, page_by_class, page_for, search_unless, placing_wish, with_block, address_on, placed_on, placed_by_claim, placed_where, placing, malloc_wish, block_placed, malloc}
 use Rattle.om_model.specs.Pool.Journal.{IsFound, EndsSearch, MayAnswer}
 use Rattle.om_model.specs.Pool.WellFormed.{EachPair, FitsZone}
@@ -26,7 +28,7 @@ use Rattle.om_model.specs.declared.entry.Move.{Move}
 use Rattle.om_model.specs.declared.reply.Why.TheVariants.{TooLarge}
 use Rattle.om_model.proofs.Each.{Across, all-weaker, all-each, all-append, all-between, pairs-between}
 use Rattle.om_model.proofs.Held.{held-in_run, held-still, all-with_run, ascends-with_run}
-use Rattle.om_model.proofs.Bytes.{come-pages, come-bytes, fresh-sound}
+use Rattle.om_model.proofs.Bytes.{canary-sound, come-pages, come-bytes, fresh-sound}
 use Rattle.om_model.proofs.Sound.{IsPlaced, IsWhole, GoTogether, AreSound, IsSound, place_of, whole-touched, apart-pages, together-swap}
 use Rattle.om_model.proofs.Places.{IsUntouched, HasRun, Serves, not-touched, serves-run, serves-own, run-own, picked, picked-placed, picked-together}
 
@@ -57,6 +59,10 @@ block-sound rules block state zone enters is =
       sound = subst Sound (sym (flat_map-append (uses_of_block rules) state.live (block ∷ []) ∙ ap (λ more. live ++ more) (append-nil (uses_of_block rules block))))
           (sound-between rules state.held (uses_of_block rules block) live waiting enters is.sound);
     }
+
+-- its bytes and its canaries are written
+placed-keeps : (rules : Rules) (block : Block) (state : State) → IsSound rules state → IsSound rules (with_canaries rules block (with_fresh_junk rules block state))
+placed-keeps rules block state is = canary-sound rules (with_fresh_junk rules block state) (fresh-sound rules state is block) block
 
 -- more words drawn change nothing that is in use
 pub drawn_more-sound : (rules : Rules) (count : ℕ) (state : State) → IsSound rules state → IsSound rules (drawn_more count state)
@@ -103,13 +109,13 @@ module _ (rules : Rules) (size class : ℕ) (class_is : size_class rules size �
       let new = use_of_place (place_of page class index) in
       let use_is : uses_of_block rules block ≡ new ∷ [] = chunk-uses address site ∙ ap (λ a. use_of_place (record { address = a; class = class }) ∷ []) (chunk-address state page word) in
       let one : pages_for rules size ≡ 1 = ap (pages_by_class rules size) class_is in
-      fresh-sound rules (with_block block state) (block-sound rules block state
+      placed-keeps rules block (with_block block state) (block-sound rules block state
       (record { fits = chunk-fits; within = omega (arith, bit_of-below (page_at address)) })
       (subst (Enters rules state.held used) (sym use_is) (record {
         placed = (picked-placed rules state.held used page class index is_one serves pick, tt);
         own = (tt, tt);
         others = (picked-together rules state.held used page class index is_one serves pick sound.placed, tt);
-      })) is) block
+      })) is)
 
 -- ---- whole pages in a run that nothing touches
 
@@ -193,10 +199,10 @@ module _ (rules : Rules) (size : ℕ) (none : size_class rules size ≡ None) wh
       let count : pages_for rules size ≡ block_pages rules size = ap (pages_by_class rules size) none in
       let zone = run.zone in
       let page_is : page_at address ≡ page = ap page_at at ∙ (let same : page_at (address_of page) ≡ page = omega arith in same) in
-      fresh-sound rules (with_block block state) (block-sound rules block state
+      placed-keeps rules block (with_block block state) (block-sound rules block state
       (record { fits = fits; within = let Z : ℕ → Type 0 = λ p. bit_of p + pages_for rules size ≤ zone_pages in subst Z (sym page_is) (omega arith) })
       (subst Enter (sym (pages-uses address site ∙ ap (λ a. uses_of_pages rules (record { address = a; size = size; site = site })) at))
-      (pages-enter state.held (uses rules state) page site rules.options.guard run)) is) block
+      (pages-enter state.held (uses rules state) page site rules.options.guard run)) is)
 
 -- ---- a block of any size
 

@@ -21,7 +21,7 @@ use Rattle.om_model.specs.Pool.Standing.{PageBlock, InPageBlock, OnGuard, NotHel
 use Rattle.om_model.specs.Pool.WellFormed.{EachPair, LiesOn}
 use Rattle.om_model.specs.declared.block.Block.{Block}
 use Rattle.om_model.specs.declared.block.Place.{Place}
-use Rattle.om_model.proofs.Each.{Across, all-weaker, all-both, all-each, all-append, all-first, all-second, all-find, across-swap, pairs-all, pairs-first, pairs-second, pairs-across}
+use Rattle.om_model.proofs.Each.{Across, all-weaker, all-both, all-each, all-append, all-first, all-second, all-find, across-swap, pairs-all, pairs-first, pairs-second, pairs-across, find-nothing, none-found}
 use Rattle.om_model.proofs.Flat.{all-flat}
 use Rattle.om_model.proofs.Sound.{HasShape, IsPlaced, GoTogether, AreSound, IsSound, place-kind, whole-touched, alike-chunk, alike-swap, shape-low, together-swap, touched-at, well-formed}
 use Rattle.om_model.proofs.Places.{untouched-free}
@@ -59,13 +59,6 @@ same-kind a b (inr on) (inr other) both page first second =
 abbrev pub AllHave : List Use → ℕ → Option Kind → Type 0
 AllHave used page kind = AllByRecursion (λ one. touches page one ≡ true → Some one.kind ≡ kind) used
 
-none-found : {X : Type 0} (test : X → Bool) (xs : List X) → find test xs ≡ None → AllByRecursion (λ x. test x ≡ false) xs
-none-found test [] none = tt
-none-found test (x ∷ xs) none = ⊎_elim
-    (λ t. let isnt : Some x ≡ None = rw t at none in cc)
-    (λ f. (f, none-found test xs (rw f at none)))
-    (cases_Bool (test x))
-
 all-found : (used : List Use) (page : ℕ) → EachPair (λ a b. touches page a ≡ true → touches page b ≡ true → a.kind ≡ b.kind) used
     → (found : Option Use) → find (touches page) used ≡ found → AllHave used page (option_map (λ (u : Use). u.kind) found)
 all-found used page pairs None none = all-weaker (λ one. touches page one ≡ false) (λ one. touches page one ≡ true → Some one.kind ≡ None) used (λ one isnt touched. absurd (true≢false (sym touched ∙ isnt))) (none-found (touches page) used none)
@@ -94,10 +87,6 @@ kind-from (x ∷ xs) page kind all = ⊎_elim
 option_or-nothing : {X : Type 0} (a b : Option X) → option_or (option_or a None) b ≡ option_or a b
 option_or-nothing None b = refl
 option_or-nothing (Some x) b = refl
-
-find-nothing : {X : Type 0} (test : X → Bool) (xs : List X) → AllByRecursion (λ x. test x ≡ false) xs → find test xs ≡ None
-find-nothing test [] all = refl
-find-nothing test (x ∷ xs) all = rw all.0 (find-nothing test xs all.1)
 
 module _ (rules : Rules) (state : State) (block : Block) (page : ℕ) where
   abbrev live_uses : List Use

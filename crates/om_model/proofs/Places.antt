@@ -52,6 +52,11 @@ untouched-free used page free = none-any (touches page) used (not-true (list_any
 pub not-touched : (page : ℕ) (one : Use) → touches page one ≡ false → touches page one ≡ true → ⊥
 not-touched page one isnt touched = true≢false (sym touched ∙ isnt)
 
+pub chunk-is : (class : ℕ) (kind : Kind) → is_chunk_of class kind ≡ true → kind ≡ Chunk class
+chunk-is class (Chunk other) is = ap Chunk (eqb-true other class is)
+chunk-is class Pages is = cc
+chunk-is class Guard is = cc
+
 module _ (rules : Rules) (held : List ℕ) (used : List Use) (placed : AllByRecursion (IsPlaced rules held) used) where
   free-first : (page class : ℕ) → IsTrue (is_class class) → IsUntouched used page → is_free_place used page class 0 ≡ true
   free-first page class is untouched =
@@ -85,11 +90,6 @@ module _ (rules : Rules) (held : List ℕ) (used : List Use) (placed : AllByRecu
         untouched = λ other low high. subst (IsUntouched used) (same other low high) untouched;
         zone = omega arith;
       }
-
-  chunk-is : (class : ℕ) (kind : Kind) → is_chunk_of class kind ≡ true → kind ≡ Chunk class
-  chunk-is class (Chunk other) is = ap Chunk (eqb-true other class is)
-  chunk-is class Pages is = cc
-  chunk-is class Guard is = cc
 
   serves-open : (page class : ℕ) → is_held held page ≡ true → page < zone_pages * rules.zones → EachPair AgreeOnPages used → is_open_page used class page ≡ true → Serves rules held used page class
   serves-open page class held_is there alike open_is =

@@ -9,9 +9,10 @@ use Rattle.om_model.specs.Pool.InUse.{uses, is_free_page}
 use Rattle.om_model.specs.Pool.Steps.{Answers, Step, unchanged, null_or_fault}
 use Rattle.om_model.specs.Pool.Malloc.{words_by_class, words_for, is_too_large, page_for, with_block, address_on, placed_on, placed_where, placing, block_placed, malloc}
 use Rattle.om_model.specs.Pool.Standing.{Standing, NotHeld, FreePage, PageBlock, InPageBlock, OnGuard, LivePlace, DelayedPlace, FreePlace, Unaligned, standing}
-use Rattle.om_model.specs.Pool.Free.{Freed, is_surplus, kept_or_let_go, evicted, without_block, drawn_slot, slot_of, into_slot, put_off, delay, freed_again, free_at, free}
+use Rattle.om_model.specs.Pool.Free.{Freed, is_surplus, kept_or_let_go, evicted, without_block, drawn_slot, slot_of, into_slot, put_off, delay, delay_unless, freed_again, free_at, free}
 use Rattle.om_model.specs.Pool.Access.{barred, load_unless, store_unless}
-use Rattle.om_model.specs.Pool.Junk.{with_freed_pages}
+use Rattle.om_model.specs.Pool.Canaries.{broken_canary}
+use Rattle.om_model.specs.Pool.Junk.{with_fresh_junk, with_freed_pages}
 use Rattle.om_model.specs.Pool.Journal.{step_of, answers_of, next_of, after, state_from, state_of}
 use Rattle.om_model.specs.declared.block.Block.{Block}
 use Rattle.om_model.specs.declared.block.Place.{Place}
@@ -22,14 +23,14 @@ use Rattle.om_model.specs.declared.reply.Reply.{Reply}
 use Rattle.om_model.specs.declared.reply.Why.TheVariants.{TooLarge}
 use Rattle.om_model.specs.declared.operation.Op.{Op}
 use Rattle.om_model.specs.declared.operation.Op.TheVariants.{Malloc, Calloc, Realloc, Reallocarray, Free, Load, Store}
-use Rattle.om_model.proofs.Bytes.{fresh-drawn, freed-drawn, freed_pages-drawn}
+use Rattle.om_model.proofs.Bytes.{canary-drawn, fresh-drawn, freed-drawn, freed_pages-drawn}
 
-on-drawn : (rules : Rules) (state : State) (page word size site : ℕ) → ((placed_on rules state page word size site).next).drawn ≡ state.drawn
+pub on-drawn : (rules : Rules) (state : State) (page word size site : ℕ) → ((placed_on rules state page word size site).next).drawn ≡ state.drawn
 on-drawn rules state page word size site =
     let block : Block = record { address = address_on rules state page word (size_class rules size); size = size; site = site } in
-    fresh-drawn rules block (with_block block state)
+    canary-drawn rules block (with_fresh_junk rules block (with_block block state)) ∙ fresh-drawn rules block (with_block block state)
 
-where-drawn : (rules : Rules) (state : State) (own : Option ℕ) (claim : Option Move) (word size site : ℕ) → ((placed_where rules state own claim word size site).next).drawn ≡ state.drawn
+pub where-drawn : (rules : Rules) (state : State) (own : Option ℕ) (claim : Option Move) (word size site : ℕ) → ((placed_where rules state own claim word size site).next).drawn ≡ state.drawn
 where-drawn rules state (Some page) claim word size site = on-drawn rules state page word size site
 where-drawn rules state None None word size site = refl
 where-drawn rules state None (Some move) word size site = on-drawn rules (with_pages (run_of move) state) (run_of move).first word size site
@@ -79,6 +80,10 @@ again-draws rules state address = record { few = omega arith; next = refl }
 none-draws : (state : State) (step : Step) → step.words ≡ 0 → (step.next).drawn ≡ state.drawn → DrawsFew state.drawn step
 none-draws state step none next = record { few = omega arith; next = omega arith }
 
+unless-draws : (rules : Rules) (state : State) (place : Place) (broken : Option ℕ) → DrawsFew state.drawn (delay_unless broken rules state place)
+unless-draws rules state place (Some offset) = record { few = omega arith; next = refl }
+unless-draws rules state place None = delay-draws rules state place
+
 at-draws : (rules : Rules) (state : State) (address : ℕ) (stands : Standing) → DrawsFew state.drawn (free_at rules state address stands)
 at-draws rules state address NotHeld = none-draws state _ refl refl
 at-draws rules state address FreePage = none-draws state _ refl refl
@@ -87,7 +92,7 @@ at-draws rules state address (PageBlock block) =
     none-draws state _ refl (let_go-drawn rules (with_freed_pages rules block left) (record { first = page_at block.address; count = block_pages rules block.size }) ∙ freed_pages-drawn rules block left)
 at-draws rules state address InPageBlock = none-draws state _ refl refl
 at-draws rules state address OnGuard = none-draws state _ refl refl
-at-draws rules state address (LivePlace place block) = delay-draws rules state place
+at-draws rules state address (LivePlace place block) = unless-draws rules state place (broken_canary rules state block)
 at-draws rules state address (DelayedPlace place) = again-draws rules state address
 at-draws rules state address FreePlace = none-draws state _ refl refl
 at-draws rules state address Unaligned = none-draws state _ refl refl

@@ -3,6 +3,7 @@ pub mod Runs
 pub mod State
 pub mod InUse
 pub mod Picks
+pub mod Canaries
 pub mod Junk
 pub mod Steps
 pub mod Malloc

@@ -2,6 +2,7 @@
 //! head and the pool's number.
 mod access;
 mod calls;
+mod canaries;
 mod free;
 mod in_use;
 mod journal;

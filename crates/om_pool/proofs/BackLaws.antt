@@ -123,15 +123,6 @@ module _ (moves : List ZoneMove) (m : ZoneMove) (page : ℕ) where
   abbrev IsBefore : ZoneMove → ZoneMove → Type 0
   IsBefore claim other = gives_back page other → other.made.version < claim.made.version
 
-  -- a move that doesn't give the page back leaves it
-  pub has-still : (gives_back page m → ⊥) → Has moves page → Has (moves ++ m ∷ []) page
-  has-still other has = record {
-    claim = has.claim;
-    made = Contains-append_left moves (m ∷ []) has.claim has.made;
-    takes_it = has.takes_it;
-    kept = all-append (IsBefore has.claim) moves (m ∷ []) has.kept ((λ back. absurd (other back)), tt);
-  }
-
   -- a claim takes it, since it is newer than all that was seen of its zone
   pub has-claimed : (sight : List Seen) → AllByRecursion (IsSeenMove sight) moves → m.claims ≡ true → m.made.first + m.made.count ≤ zone_pages → IsNewer sight m.made.zone m.made.version
       → is_page_of (run_of m.made) page ≡ true → Has (moves ++ m ∷ []) page

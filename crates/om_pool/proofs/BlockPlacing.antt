@@ -12,7 +12,7 @@ use Rattle.om_geom.specs.declared.address.Extent.{Extent}
 use Rattle.om_geom.specs.declared.address.Page.{Page}
 use Rattle.om_model.specs.Pool.InUse.{uses, touches}
 use Rattle.om_model.specs.Pool.Junk.{data_by_class, data_extent, with_fresh_junk}
-use Rattle.om_model.specs.Pool.Malloc.{address_on, is_too_large, malloc, page_by_class, page_for, pages_by_class, pages_for, placed_on, with_block, words_by_class, words_for, Placed}
+use Rattle.om_model.specs.Pool.Malloc.{address_on, is_too_large, malloc, page_by_class, page_for, pages_by_class, pages_for, placed_on, with_block, words_by_class, words_for, Placed, entered}
 use Rattle.om_model.specs.Pool.Picks.{own_run}
 use Rattle.om_model.specs.Pool.Rules.{Rules, block_pages, size_class, word_at}
 use Rattle.om_model.specs.Pool.Runs.{Run, run_of}
@@ -35,7 +35,7 @@ use Rattle.om_pool.specs.Malloc.{IsBlockOn, IsOwnRun, PutsBlock, TakesRun}
 use Rattle.om_pool.specs.TableSteps.{block_on_pages, claimed_run, fresh_filled, pages_of_block}
 use Rattle.om_pool.specs.Tables.{Tables, StandFor}
 use Rattle.om_pool.specs.declared.holdings.Holdings.{Holdings}
-use Rattle.om_pool.proofs.Fills.{fresh-stands, unjunked}
+use Rattle.om_pool.proofs.Fills.{fresh-stands, no-canaries, unwritten}
 use Rattle.om_pool.proofs.MallocLaws.{malloc-by, placed_by, IsNewClaim}
 use Rattle.om_pool.proofs.TableBlocks.{block-comes, set-block-again, take-held}
 use Rattle.om_pool.proofs.TablePages.{all-free, free-run, pages-come, words-drawn}
@@ -116,24 +116,26 @@ module _ (rules : Rules) (size : ℕ) (none : size_class rules size ≡ None) (f
 
       -- the state with the block
       abbrev after : State → ℕ → State
-      after old first = with_fresh_junk rules (block first) (with_block (block first) old)
+      after old first = entered rules (block first) old
 
       placed-is : (old : State) (first word : ℕ) → placed_on rules old first word size site ≡ record { address = Some (address_of first); next = after old first }
       unfolding address_on
       placed-is old first word =
           let at : address_on rules old first word (size_class rules size) ≡ address_of first = ap (address_on rules old first word) none in
-          ap (λ a. let one : Block = record { address = a; size = size; site = site } in let placed : Placed = record { address = Some a; next = with_fresh_junk rules one (with_block one old) } in placed) at
+          ap (λ a. let one : Block = record { address = a; size = size; site = site } in let placed : Placed = record { address = Some a; next = entered rules one old } in placed) at
 
       -- on a run that nothing touches
       block-stands : (old_tables : Tables) (old : State) → IsSound rules old → StandFor rules old_tables old → (first : ℕ) → HasRun rules old.held (uses rules old) first n → IsSound rules (after old first)
           → StandFor rules (block_on_pages rules old_tables first pages) (after old first)
       block-stands old_tables old sound old_stands first run next_is =
-          let with_is = unjunked rules (with_block (block first) old) (block first) sound.pages sound.bytes next_is in
+          let with_is = unwritten rules (with_block (block first) old) (block first) sound.pages sound.bytes next_is in
           let Run : ℕ → Type 0 = λ count. HasRun rules old.held (uses rules old) first count in
           let comes = block-comes rules old_tables old first size site none sound with_is old_stands (subst Run (sym block-count) run) in
           let Stands : ℕ → Type 0 = λ count. StandFor rules (record old_tables { pages = table.with_block old_tables.pages first count rules.options.guard }) (with_block (block first) old) in
-          fresh-stands rules (block first) (pages_of_block first pages) (extent-is first) (record old_tables { pages = table.with_block old_tables.pages first pages rules.options.guard }) (with_block (block first) old)
-          (subst Stands (sym pages_is) comes)
+          let New : State → Type 0 = λ s. StandFor rules (block_on_pages rules old_tables first pages) s in
+          subst New (sym (no-canaries rules (block first) (with_fresh_junk rules (block first) (with_block (block first) old)) none))
+          (fresh-stands rules (block first) (pages_of_block first pages) (extent-is first) (record old_tables { pages = table.with_block old_tables.pages first pages rules.options.guard }) (with_block (block first) old)
+          (subst Stands (sym pages_is) comes))
 
       pub record Puts (new : Tables) (own : Option ℕ) (claim : Option Move) (result : Option ℕ) : Type 0 where
         pub address_is : (placed_by rules state 1 own claim size site).address ≡ result

@@ -38,8 +38,9 @@ use Rattle.om_pool.specs.CoreKept.{core_state, IsBackedCore}
 use Rattle.om_pool.specs.HoldingsView.{rules_in}
 use Rattle.om_pool.specs.Unasked.{unasked_entry, IsQuiet}
 use Rattle.om_pool.specs.declared.pool_core.Core.{Core}
-use Rattle.om_pool.proofs.BackLaws.{backed-push, names-rise, seen-here, has-still, has-claimed}
+use Rattle.om_pool.proofs.BackLaws.{backed-push, names-rise, seen-here, has-claimed}
 use Rattle.om_pool.proofs.EntryLaws.{adds-released, adds-searched, adds-still, moves-claimed, moves-refused, names-claimed, names-refused}
+use Rattle.om_broker.proofs.HasLaws.{has-still}
 
 -- the held pages after a search, or after none
 abbrev pub held_after : List ℕ → Bool → Option Claim → List ℕ

@@ -9,8 +9,8 @@ use Rattle.om_geom.specs.Classes.{is_class}
 use Rattle.om_geom.specs.FitLaws.{find-passes}
 use Rattle.om_geom.specs.Numbers.{zone_pages}
 use Rattle.om_model.specs.Pool.InUse.{uses, is_free_page}
-use Rattle.om_model.specs.Pool.Junk.{data_by_class, data_extent, extent_of_place, with_fresh_junk}
-use Rattle.om_model.specs.Pool.Malloc.{address_on, block_placed, malloc, placed_on, placed_where, with_block, Placed}
+use Rattle.om_model.specs.Pool.Junk.{data_by_class, data_extent, extent_of_place}
+use Rattle.om_model.specs.Pool.Malloc.{address_on, block_placed, malloc, placed_on, placed_where, with_block, Placed, entered}
 use Rattle.om_model.specs.Pool.Picks.{is_chunk_page, own_page, picked_place, place_address}
 use Rattle.om_model.specs.Pool.Rules.{Rules, size_class, word_at}
 use Rattle.om_model.specs.Pool.Runs.{Run, run_of}
@@ -28,7 +28,7 @@ use Rattle.om_pool.specs.Asking.{one_page}
 use Rattle.om_pool.specs.Malloc.{opened, IsPlacedFirst, IsPlacedOn}
 use Rattle.om_pool.specs.TableSteps.{claimed_run, fresh_page, live_place, settled}
 use Rattle.om_pool.specs.Tables.{Tables, StandFor}
-use Rattle.om_pool.proofs.Fills.{fresh-stands, unjunked}
+use Rattle.om_pool.proofs.Fills.{canaries-stand, unwritten}
 use Rattle.om_pool.proofs.MallocLaws.{IsNewRun}
 use Rattle.om_pool.proofs.TablePages.{lowest-page, pages-come, words-drawn}
 use Rattle.om_pool.proofs.TablePicks.{fresh-picked, own-none, own-some}
@@ -56,31 +56,31 @@ module _ (rules : Rules) (size class : ℕ) (class_is : size_class rules size �
 
     -- where the place was picked on the page, the block goes there
     placed-is : (state : State) (word : ℕ) → picked_place (uses rules state) page class word ≡ Some index
-        → placed_on rules state page word size site ≡ record { address = Some address; next = with_fresh_junk rules block (with_block block state) }
+        → placed_on rules state page word size site ≡ record { address = Some address; next = entered rules block state }
     placed-is state word picks =
         let at : address_on rules state page word (size_class rules size) ≡ address = chunk-address rules size class class_is state page word ∙ ap (λ o. place_address page class (unwrap_or o 0)) picks in
-        ap (λ a. let one : Block = record { address = a; size = size; site = site } in let placed : Placed = record { address = Some a; next = with_fresh_junk rules one (with_block one state) } in placed) at
+        ap (λ a. let one : Block = record { address = a; size = size; site = site } in let placed : Placed = record { address = Some a; next = entered rules one state } in placed) at
 
     -- the tables then, if the block's placing keeps the state sound
     module _ (tables : Tables) (state : State) (is : IsSound rules state) (stands : StandFor rules tables state) (there : page < zone_pages * rules.zones)
         (serves : Serves rules state.held (uses rules state) page class) (word : ℕ) (picks : picked_place (uses rules state) page class word ≡ Some index)
-        (next_is : IsSound rules (with_fresh_junk rules block (with_block block state))) where
+        (next_is : IsSound rules (entered rules block state)) where
       is-picked : IsPicked (uses rules state) page class index
       is-picked = let P : Option ℕ → Type 0 = λ o. IsPicked (uses rules state) page class (unwrap_or o 0) in subst P picks (picked (uses rules state) page class word is_one serves.room)
 
       with-sound : IsSound rules (with_block block state)
-      with-sound = unjunked rules (with_block block state) block is.pages is.bytes next_is
+      with-sound = unwritten rules (with_block block state) block is.pages is.bytes next_is
 
-      pub settled-own : is_chunk_page (uses rules state) class page ≡ true → StandFor rules (settled rules tables address class size site) (with_fresh_junk rules block (with_block block state))
+      pub settled-own : is_chunk_page (uses rules state) class page ≡ true → StandFor rules (settled rules tables address class size site) (entered rules block state)
       settled-own chunks =
           let one = is-picked in
-          fresh-stands rules block (extent_of_place place) extent-is (live_place tables address size site) (with_block block state)
+          canaries-stand rules block (extent_of_place place) extent-is (live_place tables address size site) (with_block block state)
           (placed-own rules tables state address page class index size site class_is refl there one.below is with-sound stands one.free chunks)
 
-      pub settled-fresh : is_held state.held page ≡ true → is_free_page (uses rules state) page ≡ true → StandFor rules (settled rules (fresh_page tables page class) address class size site) (with_fresh_junk rules block (with_block block state))
+      pub settled-fresh : is_held state.held page ≡ true → is_free_page (uses rules state) page ≡ true → StandFor rules (settled rules (fresh_page tables page class) address class size site) (entered rules block state)
       settled-fresh held free =
           let one = is-picked in
-          fresh-stands rules block (extent_of_place place) extent-is (live_place (fresh_page tables page class) address size site) (with_block block state)
+          canaries-stand rules block (extent_of_place place) extent-is (live_place (fresh_page tables page class) address size site) (with_block block state)
           (placed-fresh rules tables state address page class index size site class_is refl there one.below is with-sound stands held free)
 
   -- ---- the step as a whole
@@ -115,12 +115,12 @@ module _ (rules : Rules) (size class : ℕ) (class_is : size_class rules size �
 
       -- on a page that serves the class
       places-on : (new : Tables) (page index : ℕ) → own ≡ Some page → picked_place (uses rules drawn) page class second ≡ Some index
-          → (IsSound rules (with_fresh_junk rules (block page index) (with_block (block page index) drawn)) → StandFor rules new (with_fresh_junk rules (block page index) (with_block (block page index) drawn)))
+          → (IsSound rules (entered rules (block page index) drawn) → StandFor rules new (entered rules (block page index) drawn))
           → Places new claim (Some (place_address page class index))
       places-on new page index at picks after =
-          let whole : placed_where rules drawn own claim second size site ≡ record { address = Some (address page index); next = with_fresh_junk rules (block page index) (with_block (block page index) drawn) } =
+          let whole : placed_where rules drawn own claim second size site ≡ record { address = Some (address page index); next = entered rules (block page index) drawn } =
           ap (λ o. placed_where rules drawn o claim second size site) at ∙ placed-is page index drawn second picks in
-          let sound : IsSound rules (with_fresh_junk rules (block page index) (with_block (block page index) drawn)) = let P : Placed → Type 0 = λ p. IsSound rules p.next in subst P whole placed-sound in
+          let sound : IsSound rules (entered rules (block page index) drawn) = let P : Placed → Type 0 = λ p. IsSound rules p.next in subst P whole placed-sound in
           record {
             address_is = ap (λ (p : Placed). p.address) whole;
             stands_then = let P : Placed → Type 0 = λ p. StandFor rules new p.next in subst P (sym whole) (after sound);
@@ -192,11 +192,11 @@ module _ (rules : Rules) (size class : ℕ) (class_is : size_class rules size �
         }) in
         let picked_is : picked_place (uses rules came) page class second ≡ Some index =
         sym (fresh-picked rules (claimed_run tables (one_page page)) came came_is came_stands class is_one page second there untouched) ∙ placed.place_is in
-        let whole : placed_where rules drawn own (Some move) second size site ≡ record { address = Some (address page index); next = with_fresh_junk rules (block page index) (with_block (block page index) came) } =
+        let whole : placed_where rules drawn own (Some move) second size site ≡ record { address = Some (address page index); next = entered rules (block page index) came } =
         ap (λ o. placed_where rules drawn o (Some move) second size site) at
         ∙ ap (λ r. placed_on rules (with_pages r drawn) r.first second size site) run_is
         ∙ placed-is page index came second picked_is in
-        let sound : IsSound rules (with_fresh_junk rules (block page index) (with_block (block page index) came)) =
+        let sound : IsSound rules (entered rules (block page index) came) =
         let P : Step → Type 0 = λ s. IsSound rules s.next in let Q : Placed → Type 0 = λ p. IsSound rules p.next in subst Q whole (subst P (malloc-by (Some move)) next_is) in
         let New : Tables → Type 0 = λ t. Places t (Some move) result in
         let after : Tables = settled rules (opened tables (one_page page) class) (place_address page class index) class size site in

@@ -30,7 +30,7 @@ use Rattle.om_model.specs.declared.reply.Reply.TheVariants as reply
 use Rattle.om_model.specs.declared.reply.Fault.TheVariants as fault
 use Rattle.om_model.proofs.Bytes.{freed-drawn, freed-sound}
 use Rattle.om_model.proofs.Each.{all-first}
-use Rattle.om_model.proofs.Free.{into_slot-sound, of-block}
+use Rattle.om_model.proofs.Free.{into_slot-sound, of-block, waiting}
 use Rattle.om_model.proofs.Sound.{IsSound, same_class, touches-first, well-formed}
 use Rattle.om_pages.specs.Kinds as kinds
 use Rattle.om_pages.specs.Tables.{AreAll, with_run}
@@ -53,7 +53,6 @@ use Rattle.om_pool.specs.declared.standing.Standing as code
 use Rattle.om_words.specs.DrawnWords.{WordSource}
 use Rattle.om_pool.proofs.CallLaws.{backed-let_go}
 use Rattle.om_pool.proofs.CoreLaws.{core-sound, kept, left_after, same-rules, taken}
-use Rattle.om_pool.proofs.Slots.{waiting}
 use Rattle.om_pool.proofs.Spending.{uses-left}
 use Rattle.om_pool.proofs.TableAnswers.{HasPlace, live-place, means-by}
 use Rattle.om_pool.proofs.TablePages.{all-held, bytes-filled, free-counted, pages-go}
@@ -257,6 +256,13 @@ module _ (rules : Rules) (tables : Tables) (state : State) (is : IsSound rules s
 
   class_is : size_class rules block.size ≡ Some place.class
   class_is = live-class rules state is place.address block live place.class on_page
+
+  pub block-class : size_class rules block.size ≡ Some place.class
+  block-class = class_is
+
+  -- the place is that of the block
+  pub block-place : place ≡ record { address = block.address; class = place.class }
+  block-place = let own = lives in ap (λ a. let p : Place = record { address = a; class = place.class } in p) (own.place_is ∙ sym own.block_is)
 
   pub place-bytes : HoldsPlace tables.memory place
   place-bytes =

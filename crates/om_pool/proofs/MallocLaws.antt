@@ -13,9 +13,10 @@ use Rattle.om_geom.specs.Addresses.{bit_of}
 use Rattle.om_geom.specs.Numbers.{zone_pages}
 use Rattle.om_model.specs.Data.CallEntry.{CallEntry}
 use Rattle.om_model.specs.Pool.Journal.{MayAnswer, NamesSearched}
+use Rattle.om_model.specs.Pool.Canaries.{canaries, with_canaries}
 use Rattle.om_model.specs.Pool.Junk.{data_extent, fresh_byte, with_fresh_junk}
 use Rattle.om_model.specs.Pool.Malloc.{address_on, block_or_null, block_placed, is_too_large, malloc, malloc_wish, page_for, pages_for, placed_on, placed_where, placing, placing_wish, with_block, search_unless, words_for, Placed}
-use Rattle.om_model.specs.Pool.Rules.{Rules, size_class, word_at, words_from}
+use Rattle.om_model.specs.Pool.Rules.{Rules, canary_byte, size_class, word_at, words_from}
 use Rattle.om_model.specs.Pool.Runs.{Run, run_of}
 use Rattle.om_model.specs.Pool.State.{State, drawn_more, filled_with, is_held, with_pages, with_run}
 use Rattle.om_model.specs.Pool.Steps.{unchanged, null_or_fault, Answers, Nothing, Step, Wish}
@@ -29,7 +30,6 @@ use Rattle.om_model.specs.declared.operation.Op.TheVariants.{Malloc}
 use Rattle.om_model.specs.declared.operation.Who.{Who}
 use Rattle.om_model.specs.declared.reply.Reply.{Reply}
 use Rattle.om_model.specs.declared.reply.Why.TheVariants.{TooLarge}
-use Rattle.om_model.proofs.Bytes.{fresh-drawn}
 use Rattle.om_pages.specs.Kinds as kinds
 use Rattle.om_pages.specs.declared.kind.PageKind.{PageKind}
 use Rattle.om_pages.specs.declared.kind.PageKind.TheVariants as page_is
@@ -46,6 +46,7 @@ use Rattle.om_pool.proofs.CoreLaws.{entry_with, kept, left_after, taken, Does}
 use Rattle.om_pool.proofs.Spending.{run-comes, uses-claimed, uses-still}
 use Rattle.om_pool.proofs.EntryLaws.{adds-asked}
 use Rattle.om_pool.proofs.TablePages.{all-absent}
+use Rattle.om_model.proofs.Steps.{where-drawn}
 
 -- ---- what the broker answers is what the zones may answer
 
@@ -143,17 +144,12 @@ reply-is rules None = refl
 reply-is rules (Some at) = refl
 
 on-held : (rules : Rules) (state : State) (page word size site : ℕ) → ((placed_on rules state page word size site).next).held ≡ state.held
-unfolding with_fresh_junk
+unfolding with_canaries with_fresh_junk
 on-held rules state page word size site =
     let block : Block = record { address = address_on rules state page word (size_class rules size); size = size; site = site } in
     let whole = with_block block state in
     let filled = filled_with fresh_byte (data_extent rules block) whole in
-    elim (rules.options.junk == 2) as (λ b. (if b then filled else whole).held ≡ state.held) [ true ↦ refl | false ↦ refl ]
-
-on-drawn : (rules : Rules) (state : State) (page word size site : ℕ) → ((placed_on rules state page word size site).next).drawn ≡ state.drawn
-on-drawn rules state page word size site =
-    let block : Block = record { address = address_on rules state page word (size_class rules size); size = size; site = site } in
-    fresh-drawn rules block (with_block block state)
+    elim (rules.options.junk == 2) as (λ b. (filled_with (canary_byte rules) (canaries rules block) (if b then filled else whole)).held ≡ state.held) [ true ↦ refl | false ↦ refl ]
 
 -- the held pages by the claim
 abbrev held_by : Option ℕ → Option Move → List ℕ → List ℕ
@@ -165,11 +161,6 @@ placed-held : (rules : Rules) (state : State) (own : Option ℕ) (claim : Option
 placed-held rules state (Some page) claim word size site = on-held rules state page word size site
 placed-held rules state None None word size site = refl
 placed-held rules state None (Some move) word size site = on-held rules (with_pages (run_of move) state) (run_of move).first word size site
-
-placed-drawn : (rules : Rules) (state : State) (own : Option ℕ) (claim : Option Move) (word size site : ℕ) → ((placed_where rules state own claim word size site).next).drawn ≡ state.drawn
-placed-drawn rules state (Some page) claim word size site = on-drawn rules state page word size site
-placed-drawn rules state None None word size site = refl
-placed-drawn rules state None (Some move) word size site = on-drawn rules (with_pages (run_of move) state) (run_of move).first word size site
 
 by-answer : (held : List ℕ) (own : Option ℕ) (answer : Option Claim) → held_by own (claim_in answer) held ≡ held_after held (is_some own) answer
 by-answer held (Some page) answer = refl
@@ -258,7 +249,7 @@ module _ (old new : Core) (who : Who) (words n : ℕ) (own : Option ℕ) (first 
     reply_is = answer_is ∙ reply-is rules result ∙ ap (block_or_null rules) (sym is.address_is) ∙ ap (λ (s : Step). s.reply) (sym malloc-is);
     words_are = drawn_are ∙ ap (λ (s : Step). words_from rules state.drawn s.words) (sym malloc-is);
     tables = let P : Step → Type 0 = λ s. StandFor rules (tables_in new.state) s.next in subst P (sym malloc-is) is.stands;
-    drawn = is.drawn ∙ sym (placed-drawn rules (drawn_more words state) own claim (word_at rules (state.drawn + 1)) size site) ∙ ap (λ (s : Step). (s.next).drawn) (sym malloc-is);
+    drawn = is.drawn ∙ sym (where-drawn rules (drawn_more words state) own claim (word_at rules (state.drawn + 1)) size site) ∙ ap (λ (s : Step). (s.next).drawn) (sym malloc-is);
     rules = is.rules;
     canary = is.canary;
     room = is.room;

@@ -1,14 +1,12 @@
 -- Slots, of which one is set: what is found among the places that wait, and what is so of them.
-use Rattle.std.proofs.Common.{◌≡◌, ℕ, zero, suc, ◌<◌, Bool, true, false, List, [], ◌∷◌, length, map, cond, Option, Some, None, IfSome, is_some, refl, ap, subst, arith}
+use Rattle.std.proofs.Common.{◌≡◌, ℕ, zero, suc, ◌<◌, Bool, true, false, List, [], ◌∷◌, length, cond, Option, Some, None, IfSome, is_some, refl, ap, subst, arith}
 use Rattle.std.specs.Prelude.{slice_index_or, slice_set}
 use Rattle.std.specs.List.{AllByRecursion, find}
 use Rattle.om_model.specs.Pool.InUse.{Use, use_of_place}
 use Rattle.om_model.specs.Pool.State.{delayed}
 use Rattle.om_model.specs.Pool.WellFormed.{EachPair}
 use Rattle.om_model.specs.declared.block.Place.{Place}
-
-abbrev pub waiting : List (Option Place) → List Use
-waiting slots = map use_of_place (delayed slots)
+use Rattle.om_model.proofs.Free.{waiting}
 
 -- what is so of all that waits is so of what a slot has
 pub slot-has : (P : Use → Type 0) (slots : List (Option Place)) (k : ℕ) (gone : Place) → AllByRecursion P (waiting slots) → slice_index_or slots k None ≡ Some gone → P (use_of_place gone)

@@ -2,7 +2,7 @@
 -- free, what stands at an address, and what bars a byte. Where a live place stands, the tables have its page and place.
 use Rattle.std.proofs.Common.{◌≡◌, ℕ, zero, suc, ◌+◌, ◌-◌, ◌*◌, ◌/◌, ◌%◌, ◌<◌, ◌≤◌, Bool, true, false, ◌&&◌, ◌==◌, nat_eq, nat_le, nat_lt, if◌then◌else◌, List, [], ◌∷◌, map, Option, Some, None, IsSome, IsTrue, refl, sym, subst, ap, ◌∙◌, arith}
 use Rattle.std.specs.List.{find, flat_map, list_any, range_with_len, slice_get, AllByRecursion}
-use Rattle.std.specs.Option.{is_some, is_none, option_and_then, option_map}
+use Rattle.std.specs.Option.{is_some, is_none, option_and_then}
 use Rattle.std.proofs.lemmas.Bool.{true≢false, cases_Bool, and_from, and_left, and_right, and_parts, eq-eqb, eqb-true, le-leb, le-ltb, leb-true, lt-ltb, ltb-true}
 use Rattle.std.proofs.lemmas.Bool.Decides.{nat_tests}
 use Rattle.std.proofs.Math.Nat.{div-add-mod, mul_comm}
@@ -26,8 +26,8 @@ use Rattle.om_model.specs.Pool.WellFormed.{AreAlike}
 use Rattle.om_model.specs.declared.block.Block.{Block}
 use Rattle.om_model.specs.declared.block.Place.{Place}
 use Rattle.om_model.specs.declared.reply.Reply.TheVariants.{Miss}
-use Rattle.om_model.proofs.Each.{all-weaker, all-both, all-append, all-second, all-find, none-any}
-use Rattle.om_model.proofs.Free.{alike-on_page}
+use Rattle.om_model.proofs.Each.{all-weaker, all-both, all-append, all-second, all-find, none-any, none-found}
+use Rattle.om_model.proofs.Free.{alike-on_page, has-kind}
 use Rattle.om_model.proofs.PageKinds.{standing-first, standing-inside}
 use Rattle.om_model.proofs.Sound.{HasWholePages, IsPlaced, IsSound, place-kind, same_class, shape-chunk, touches-first}
 use Rattle.om_pages.specs.Kinds as kinds
@@ -49,13 +49,6 @@ map-all : {X Y : Type 0} (P : Y → Type 0) (f : X → Y) (xs : List X) → AllB
 map-all P f [] all = tt
 map-all P f (x ∷ xs) all = (all.0, map-all P f xs all.1)
 
-none-found : {X : Type 0} (test : X → Bool) (xs : List X) → find test xs ≡ None → AllByRecursion (λ x. test x ≡ false) xs
-none-found test [] none = tt
-none-found test (x ∷ xs) none = ⊎_elim
-    (λ t. let isnt : Some x ≡ None = rw t at none in cc)
-    (λ f. (f, none-found test xs (rw f at none)))
-    (cases_Bool (test x))
-
 get-made : {X : Type 0} (f : ℕ → X) (a n i j : ℕ) → a + i ≡ j → slice_get (map f (range_with_len a n)) i ≡ (if nat_lt i n then Some (f j) else None)
 get-made f a zero i j is = ap (λ b. if b then Some (f j) else None) (sym (le-ltb i 0 (omega arith)))
 get-made f a (suc n) zero j is = let same : a ≡ j = omega arith in ap (λ k. Some (f k)) same ∙ ap (λ b. if b then Some (f j) else None) (sym (lt-ltb 0 (suc n) (omega arith)))
@@ -64,16 +57,6 @@ get-made f a (suc n) (suc i) j is =
     get-made f (a + 1) n i j (omega arith) ∙ ap (λ b. if b then Some (f j) else None) less
 
 -- ---- what has a page, by its kind
-
--- the thing that gives the page its kind
-record HasKind (found : Option Use) (kind : Kind) : Type 0 where
-  one : Use
-  is : found ≡ Some one
-  same : one.kind ≡ kind
-
-has-kind : (found : Option Use) (kind : Kind) → option_map (λ (one : Use). one.kind) found ≡ Some kind → HasKind found kind
-has-kind None kind e = cc
-has-kind (Some one) kind e = record { one = one; is = refl; same = cc }
 
 kind-free : (used : List Use) (page : ℕ) → is_none (page_kind used page) ≡ is_free_page used page
 kind-free [] page = refl

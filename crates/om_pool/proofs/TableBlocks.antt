@@ -22,7 +22,7 @@ use Rattle.om_model.specs.Pool.State.{State, holds, is_held}
 use Rattle.om_model.specs.Pool.WellFormed.{FitsZone}
 use Rattle.om_model.specs.declared.block.Block.{Block}
 use Rattle.om_model.specs.declared.block.Place.{Place}
-use Rattle.om_model.proofs.Each.{all-weaker, all-find, all-first, none-any, any-none}
+use Rattle.om_model.proofs.Each.{all-weaker, all-find, all-first, none-any, any-none, find-nothing}
 use Rattle.om_model.proofs.Flat.{all-flat}
 use Rattle.om_model.proofs.Malloc.{some-pages}
 use Rattle.om_model.proofs.PageKinds.{all-have, with_block-kinds, with_block-others, without_block-others, without_block-free}
@@ -36,7 +36,6 @@ use Rattle.om_pages.specs.declared.kind.PageKind.TheVariants as page_is
 use Rattle.om_pool.specs.Standing.{IsPageBlock}
 use Rattle.om_pool.specs.TableSteps.{freed_run}
 use Rattle.om_pool.specs.Tables.{Tables, StandFor, block_on, kind_by, kind_in, has_by, place_has, chunk_by}
-use Rattle.om_pool.proofs.TablePages.{find-nothing}
 use Rattle.om_pool.proofs.TableSteps.{kind-class, kind-stays, or-none, page-same}
 use Rattle.om_pool.proofs.WholeBlocks.{spot, front, guard, of-data, of-guard, data-touched, guard-touched, clear, each-page, only-at, of-found, begins-none}
 

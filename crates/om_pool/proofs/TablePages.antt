@@ -16,7 +16,7 @@ use Rattle.om_model.specs.Pool.Picks.{is_free_run, own_run}
 use Rattle.om_model.specs.Pool.Rules.{Rules}
 use Rattle.om_model.specs.Pool.Runs.{Run, is_page_of}
 use Rattle.om_model.specs.Pool.State.{State, drawn_more, filled_with, written, is_held, with_pages, without_pages}
-use Rattle.om_model.proofs.Each.{all-weaker, any-none}
+use Rattle.om_model.proofs.Each.{all-weaker, any-none, find-nothing}
 use Rattle.om_model.proofs.Held.{Ascends, held-below, held-with_run, held-without_run}
 use Rattle.om_model.proofs.Sound.{IsPlaced, IsSound}
 use Rattle.om_pages.specs.FreeRuns as runs
@@ -27,24 +27,7 @@ use Rattle.om_pages.specs.declared.kind.PageKind.{PageKind}
 use Rattle.om_pages.specs.declared.kind.PageKind.TheVariants as page_is
 use Rattle.om_pool.specs.Tables.{Tables, StandFor, block_on, kind_by, kind_in}
 use Rattle.om_pool.proofs.TableAnswers.{free-by, held-by}
-
--- ---- tests
-
-and_true : (b : Bool) → (b && true) ≡ b
-and_true true = refl
-and_true false = refl
-
-and_false : (b : Bool) → (b && false) ≡ false
-and_false true = refl
-and_false false = refl
-
-or_true : (b : Bool) → (b || true) ≡ true
-or_true true = refl
-or_true false = refl
-
-or_false : (b : Bool) → (b || false) ≡ b
-or_false true = refl
-or_false false = refl
+use Rattle.std.proofs.Math.Bool.{and-false, and-true, or-false, or-true}
 
 -- ---- lists
 
@@ -87,10 +70,6 @@ all-of (x ∷ xs) each = (each x, all-of xs each)
 all-from : (a n : ℕ) → AllByRecursion (λ page. a ≤ page) (range_with_len a n)
 all-from a zero = tt
 all-from a (suc n) = (omega arith, all-weaker (λ page. a + 1 ≤ page) (λ page. a ≤ page) (range_with_len (a + 1) n) (λ page later. omega arith) (all-from (a + 1) n))
-
-pub find-nothing : {X : Type 0} (test : X → Bool) (xs : List X) → AllByRecursion (λ x. test x ≡ false) xs → find test xs ≡ None
-find-nothing test [] all = refl
-find-nothing test (x ∷ xs) all = rw all.0 (find-nothing test xs all.1)
 
 -- the elements that pass a test are as many as the places that have one
 count-at : {X : Type 0} (test : X → Bool) (other : X) (at : ℕ → X) (a : ℕ) (xs : List X) → ((i : ℕ) → i < length xs → at (a + i) ≡ get_or xs i other) → length (filter test xs) ≡ length (filter (λ i. test (at i)) (range_with_len a (length xs)))
@@ -184,7 +163,7 @@ module _ (rules : Rules) (tables : Tables) (state : State) (is : IsSound rules s
   pub lowest-page : runs.lowest_run tables.pages 1 ≡ find (is_free_page used) state.held
   lowest-page = find-held (runs.is_free_run tables.pages 1) (is_free_page used) (λ page.
       ap (λ b. b && (kinds.is_free (table.kind_of tables.pages page) && true)) (le-leb (bit_of page + 1) zone_pages (omega arith))
-      ∙ ap (λ b. b && true) (free-there page) ∙ and_true (is_held state.held page && is_free_page used page))
+      ∙ ap (λ b. b && true) (free-there page) ∙ and-true (is_held state.held page && is_free_page used page))
 
   pub free-counted : table.free_count tables.pages ≡ length (free_pages used state.held)
   free-counted =
@@ -235,8 +214,8 @@ module _ (rules : Rules) (tables : Tables) (state : State) (stands : StandFor ru
     pages_all = length-with_run tables.pages run.first run.count page_is.Absent ∙ stands.pages_all;
     chunks_all = stands.chunks_all;
     pages = run-kinds page_is.Absent (without_pages run state)
-        (λ page yes there. sym (ap (λ b. kind_where b page) (held-without_run run state.held page ∙ ap (λ b. is_held state.held page && not b) yes ∙ and_false (is_held state.held page))))
-        (λ page no. sym (ap (λ b. kind_where b page) (held-without_run run state.held page ∙ ap (λ b. is_held state.held page && not b) no ∙ and_true (is_held state.held page))));
+        (λ page yes there. sym (ap (λ b. kind_where b page) (held-without_run run state.held page ∙ ap (λ b. is_held state.held page && not b) yes ∙ and-false (is_held state.held page))))
+        (λ page no. sym (ap (λ b. kind_where b page) (held-without_run run state.held page ∙ ap (λ b. is_held state.held page && not b) no ∙ and-true (is_held state.held page))));
     chunks = stands.chunks;
     slots = stands.slots;
     memory = ap (λ m. frames.without_pages m run.first run.count) stands.memory;
@@ -262,9 +241,9 @@ module _ (rules : Rules) (tables : Tables) (state : State) (stands : StandFor ru
       chunks_all = stands.chunks_all;
       pages = run-kinds page_is.Free (with_pages run state)
           (λ page yes there. sym (
-          ap (λ b. kind_where b page) (held-with_run run state.held page ∙ ap (λ b. is_held state.held page || b) yes ∙ or_true (is_held state.held page))
+          ap (λ b. kind_where b page) (held-with_run run state.held page ∙ ap (λ b. is_held state.held page || b) yes ∙ or-true (is_held state.held page))
           ∙ ap (kind_by (block_on rules state page)) (fresh-kind page yes)))
-          (λ page no. sym (ap (λ b. kind_where b page) (held-with_run run state.held page ∙ ap (λ b. is_held state.held page || b) no ∙ or_false (is_held state.held page))));
+          (λ page no. sym (ap (λ b. kind_where b page) (held-with_run run state.held page ∙ ap (λ b. is_held state.held page || b) no ∙ or-false (is_held state.held page))));
       chunks = stands.chunks;
       slots = stands.slots;
       memory = ap (λ m. frames.with_frames m (frames.zero_frames run.first run.count)) stands.memory;

@@ -29,7 +29,7 @@ use Rattle.om_model.specs.declared.block.Block.{Block}
 use Rattle.om_model.specs.declared.block.Place.{Place}
 use Rattle.om_model.proofs.Each.{all-weaker, all-both, all-each, all-append, all-first, all-second, any-none, pairs-second, pairs-across}
 use Rattle.om_model.proofs.Flat.{all-flat}
-use Rattle.om_model.proofs.Free.{of-block, of-left}
+use Rattle.om_model.proofs.Free.{of-block, of-left, waiting}
 use Rattle.om_model.proofs.Malloc.{chunk-uses}
 use Rattle.om_model.proofs.PageKinds.{all-have, without_block-others, into_slot-kind}
 use Rattle.om_model.proofs.Places.{IsUntouched, untouched-free}
@@ -40,7 +40,7 @@ use Rattle.om_pages.specs.declared.kind.PageKind.{PageKind}
 use Rattle.om_pages.specs.declared.kind.PageKind.TheVariants as table
 use Rattle.om_pool.specs.Tables.{Tables, StandFor, block_on, kind_by, kind_in, has_by, place_has}
 use Rattle.om_pool.proofs.TableAnswers.{place-there}
-use Rattle.om_pool.proofs.Slots.{waiting, slot-has, slot-found, slot-other, slot-all, slot-related}
+use Rattle.om_pool.proofs.Slots.{slot-has, slot-found, slot-other, slot-all, slot-related}
 use Rattle.om_pool.proofs.TableSteps.{page_by, chunk_page_by, Shows, Unbegun, pages_in, kinds_of, kind-class, vacant, vacant-free, free-places, same-table, shows, kind-stays, place-shown}
 
 -- ---- what is found, and what is in use

@@ -3,7 +3,7 @@
 use Rattle.std.proofs.Common.{◌≡◌, ℕ, ◌-◌, ◌*◌, ◌/◌, ◌<◌, Bool, true, false, ◌==◌, ◌&&◌, if◌then◌else◌, List, [], ◌∷◌, length, length-set, map, set, get_or, Option, Some, None, IsTrue, cond, replicate, inl, inr, refl, sym, ap, ◌∙◌, subst, arith}
 use Rattle.std.specs.List.{AllByRecursion, find, flat_map, list_any, range_with_len}
 use Rattle.std.specs.Option.{option_map, option_or}
-use Rattle.std.proofs.lemmas.Bool.{cases_eq, eqb-true, le-leb, and_parts, ne_eqb, eq-eqb, not-true, cases_lt}
+use Rattle.std.proofs.lemmas.Bool.{cases_eq, le-leb, and_parts, ne_eqb, eq-eqb, not-true, cases_lt}
 use Rattle.std.proofs.lemmas.List.{same_lists, get_or-set_same, get_or-set_other, get_or-replicate, length-replicate}
 use Rattle.std.proofs.lemmas.List.FromFn.{get_or-map-range_with_len, length-map-range_with_len}
 use Rattle.std.proofs.lemmas.List.Folds.{find-append}
@@ -28,7 +28,7 @@ use Rattle.om_model.specs.declared.block.Place.{Place}
 use Rattle.om_model.proofs.Each.{all-both, all-first, all-second, all-find, any-none, none-any, any-passing}
 use Rattle.om_model.proofs.Malloc.{chunk-uses}
 use Rattle.om_model.proofs.PageKinds.{all-have, with_block-kinds, with_block-others}
-use Rattle.om_model.proofs.Places.{IsUntouched, not-touched, untouched-free}
+use Rattle.om_model.proofs.Places.{IsUntouched, not-touched, untouched-free, chunk-is}
 use Rattle.om_model.proofs.Sound.{IsPlace, IsPlaced, IsSound, first_of, place-page, place-kind, shape-chunk, same_class, touches-first, touches-place}
 use Rattle.om_pages.specs.Tables.{with_run}
 use Rattle.om_pages.specs.TableLaws.{length-with_run, kind_of-with_run_in, kind_of-with_run_out}
@@ -241,11 +241,6 @@ kind-stays held old new old_kind new_kind same = ap (λ (kind : PageKind). if he
 pub or-none : {X : Type 0} (o : Option X) → option_or o None ≡ o
 or-none None = refl
 or-none (Some x) = refl
-
-chunk-is : (class : ℕ) (kind : Kind) → is_chunk_of class kind ≡ true → kind ≡ Chunk class
-chunk-is class (Chunk other) is = ap Chunk (eqb-true other class is)
-chunk-is class Pages is = cc
-chunk-is class Guard is = cc
 
 -- ---- a chunk is placed
 

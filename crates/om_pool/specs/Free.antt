@@ -5,6 +5,7 @@ use Rattle.om_geom.specs.Addresses.{address_of, page_at}
 use Rattle.om_geom.specs.Numbers.{zone_pages, most_zones}
 use Rattle.om_pages.specs.Kinds.{is_held}
 use Rattle.om_pages.specs.Tables.{AreAll}
+use Rattle.om_model.specs.Pool.Canaries.{broken_canary}
 use Rattle.om_model.specs.Pool.Free.{free}
 use Rattle.om_model.specs.Pool.Rules.{Rules}
 use Rattle.om_model.specs.Pool.Runs.{Run}
@@ -37,9 +38,14 @@ abbrev pub Frees : Core → Core → Who → ℕ → Reply → Type 0
 Frees old new who address reply =
     Takes (core_view old) (core_view new) who (Free address) reply (λ answers. free (rules_in old.state) (core_state old) address)
 
--- a live place of a class begins at the address
-abbrev pub IsLiveAt : Core → ℕ → Place → Type 0
-IsLiveAt core address place = (block : Block) × (standing (rules_in core.state) (core_state core) address ≡ LivePlace place block)
+-- a block's place begins at the address, and is live
+abbrev pub IsLiveAt : Core → ℕ → Place → Block → Type 0
+IsLiveAt core address place block = standing (rules_in core.state) (core_state core) address ≡ LivePlace place block
+
+-- and no canary behind the block is broken
+abbrev pub IsWholeAt : Core → ℕ → Place → Type 0
+IsWholeAt core address place =
+    (block : Block) × IsLiveAt core address place block × (broken_canary (rules_in core.state) (core_state core) block ≡ None)
 
 -- ---- what becomes of a place that left its slot
 

@@ -14,8 +14,10 @@ use Rattle.om_model.specs.Pool.Junk.{extent_of_place, fresh_byte, freed_byte, fr
 use Rattle.om_frame.specs.Frames.{zero_frames}
 use Rattle.om_geom.specs.Addresses.{address_of, page_at}
 use Rattle.om_geom.specs.Numbers.{most_zones, page_size, zone_pages}
-use Rattle.om_model.specs.Pool.Rules.{Rules}
+use Rattle.om_model.specs.Pool.Canaries.{canaries}
+use Rattle.om_model.specs.Pool.Rules.{Rules, canary_byte}
 use Rattle.om_model.specs.Pool.Runs.{Run}
+use Rattle.om_model.specs.declared.block.Block.{Block}
 use Rattle.om_model.specs.declared.block.Place.{Place}
 use Rattle.om_pages.specs.FreeRuns.{lowest_run}
 use Rattle.om_pages.specs.Kinds.{is_held}
@@ -106,10 +108,15 @@ OwnPlace old new class first second result = OwnBy old new class second result (
 
 -- ---- a block
 
--- a block on a place, which is filled by the junk level
+-- the canaries behind a block are written
+abbrev pub canaries_filled : Rules → Block → Tables → Tables
+canaries_filled rules block tables = filled_by (canary_byte rules) (canaries rules block) tables
+
+-- a block on a place, which is filled by the junk level, and then its canaries
 abbrev pub settled : Rules → Tables → ℕ → ℕ → ℕ → ℕ → Tables
 settled rules tables address class size site =
-    fresh_filled rules (extent_of_place (record { address = address; class = class })) (live_place tables address size site)
+    canaries_filled rules (record { address = address; size = size; site = site })
+    (fresh_filled rules (extent_of_place (record { address = address; class = class })) (live_place tables address size site))
 
 -- the bytes of so many data pages
 abbrev pub pages_of_block : ℕ → ℕ → Extent

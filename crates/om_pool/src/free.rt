@@ -4,13 +4,13 @@ ghost use Rattle.om_broker.specs.Claims.{HasFrames};
 ghost use Rattle.om_frame.specs.Frames.{zero_frames, AreHeld};
 ghost use Rattle.om_geom.specs.Addresses.{bit_of, page_at};
 ghost use Rattle.om_geom.specs.Numbers.{zone_pages};
-ghost use Rattle.om_model.specs.Pool.Free.{freed_again, slot_holds};
+ghost use Rattle.om_model.specs.Pool.Free.{freed_again, slot_holds, told_broken};
 ghost use Rattle.om_model.specs.Pool.Steps.{unchanged};
 ghost use Rattle.om_model.specs.declared.entry.Entry.TheVariants.{Call};
 ghost use Rattle.om_pool.specs.CoreKept.{core_state, view_of, IsBackedCore, IsCore, HasRoom};
 ghost use Rattle.om_pages.specs.Kinds.{is_free};
 ghost use Rattle.om_pages.specs.Tables.{AreAll};
-ghost use Rattle.om_pool.specs.Free.{FreeIs, Frees, Evicts, IsBlockAt, IsKeptOrGone, IsLiveAt, IsThere};
+ghost use Rattle.om_pool.specs.Free.{FreeIs, Frees, Evicts, IsBlockAt, IsKeptOrGone, IsLiveAt, IsThere, IsWholeAt};
 ghost use Rattle.om_pool.specs.HoldingsView.{rules_in};
 ghost use Rattle.om_pool.specs.PoolView.{says_no_run, UsesBroker};
 ghost use Rattle.om_pool.specs.Unasked.{unasked_entry, IsQuiet};
@@ -19,8 +19,8 @@ use crate::holdings::{page_at, slot_at, slot_holds};
 use crate::pool_core::Core;
 use crate::standing::Standing;
 use om_broker::Broker;
-use om_geom::Page;
-use om_model::{Drawn, Fault, Move, Op, Place, Reply, SLOT_COUNT, Who};
+use om_geom::{Class, Page};
+use om_model::{Block, Drawn, Fault, Move, Op, Place, Reply, SLOT_COUNT, Who};
 use std::sync::Wait;
 
 impl Core {
@@ -52,7 +52,9 @@ impl Core {
             Standing::Unaligned => self.answer(who, address, Reply::Fault(Fault::ModifiedPointer)),
             Standing::FreePlace => self.answer(who, address, Reply::Fault(Fault::AlreadyFree)),
             Standing::DelayedPlace { .. } => self.free_again(who, address),
-            Standing::LivePlace { place, .. } => self.delay(rt, broker, who, address, place),
+            Standing::LivePlace { place, block } => {
+                self.free_place(rt, broker, who, address, place, block)
+            }
         }
     }
 
@@ -88,6 +90,49 @@ impl Core {
         reply
     }
 
+    // A live place. Where a canary behind its block was changed, that is told, and nothing else is done.
+    fn free_place<R: Wait, B: Broker>(
+        &mut self,
+        rt: &R,
+        broker: &mut B,
+        who: Who,
+        address: u64,
+        place: Place,
+        block: Block,
+    ) -> Reply
+        requires kept { IsCore self.old }
+        requires backed { IsBackedCore B.Broker self.old broker.old }
+        requires room { HasRoom self.old }
+        requires live { IsLiveAt self.old address place block }
+        ensures kept { IsCore self.new }
+        ensures backed { IsBackedCore B.Broker self.new broker.new }
+        ensures uses { UsesBroker B.Broker (view_of self.old broker.old)
+            (view_of self.new broker.new) result }
+        ensures taken { Frees self.old self.new who address result }
+    {
+        let class = Class(place.class);
+        match self.state.broken_canary(block, class, self.canary) {
+            Some(offset) => self.tell_broken(who, address, offset),
+            None => self.delay(rt, broker, who, address, place),
+        }
+    }
+
+    // A canary was changed. The word of the slot is drawn still.
+    fn tell_broken(&mut self, who: Who, address: u64, offset: u64) -> Reply
+        requires kept { IsCore self.old }
+        requires room { HasRoom self.old }
+        requires is { FreeIs self.old address (told_broken (core_state self.old) offset) }
+        ensures kept { IsCore self.new }
+        ensures reply { says_no_run result ≡ false }
+        ensures quiet { IsQuiet self.old self.new who (Op.Free address) result }
+        ensures taken { Frees self.old self.new who address result }
+    {
+        let word = self.state.draw();
+        let reply = Reply::Fault(Fault::Canary { offset });
+        self.enter_free(who, address, reply, Drawn::one(word), None);
+        reply
+    }
+
     // A live place is put off: it enters the slot that a word chooses, and what the slot had is
     // evicted.
     fn delay<R: Wait, B: Broker>(
@@ -101,7 +146,7 @@ impl Core {
         requires kept { IsCore self.old }
         requires backed { IsBackedCore B.Broker self.old broker.old }
         requires room { HasRoom self.old }
-        requires live { IsLiveAt self.old address place }
+        requires whole { IsWholeAt self.old address place }
         ensures kept { IsCore self.new }
         ensures backed { IsBackedCore B.Broker self.new broker.new }
         ensures uses { UsesBroker B.Broker (view_of self.old broker.old)

@@ -1,9 +1,9 @@
 //! Junk: bytes that tell a reader of fresh or freed memory what it is.
-ghost use Rattle.std.specs.Prelude.{◌≡◌, ◌*◌, ◌<◌, ◌≤◌, IsTrue};
+ghost use Rattle.std.specs.Prelude.{ℕ, ◌≡◌, ◌*◌, ◌<◌, ◌≤◌, IsTrue};
 ghost use Rattle.om_geom.specs.Addresses.{address_of};
 ghost use Rattle.om_geom.specs.Classes.{is_class};
 ghost use Rattle.om_geom.specs.Numbers.{most_zones, page_size, zone_pages};
-ghost use Rattle.om_frame.specs.Memory.{IsHeldPart};
+ghost use Rattle.om_frame.specs.Memory.{is_held_at, IsHeldPart};
 ghost use Rattle.om_model.specs.Pool.Junk.{extent_of_place, freed_len};
 ghost use Rattle.om_pool.specs.Chunks.{HoldsPlace};
 ghost use Rattle.om_pool.specs.HoldingsView.{rules_in, tables_in, IsSameBut};
@@ -28,6 +28,8 @@ impl Holdings {
         requires bytes { IsHeldPart self.old.shelf at.0 len }
         ensures tables { tables_in self.new ≡ fresh_filled (rules_in self.old)
             (record { first = at.0; len = len }) (tables_in self.old) }
+        ensures held { (address : ℕ) → is_held_at self.new.shelf address
+            ≡ is_held_at self.old.shelf address }
         ensures same { IsSameBut self.old self.new }
     {
         if self.opts.junk == 2 {
@@ -67,6 +69,8 @@ impl Holdings {
         requires bytes { IsHeldPart self.old.shelf at.0 len }
         ensures tables { tables_in self.new
             ≡ filled_by byte (record { first = at.0; len = len }) (tables_in self.old) }
+        ensures held { (address : ℕ) → is_held_at self.new.shelf address
+            ≡ is_held_at self.old.shelf address }
         ensures same { IsSameBut self.old self.new }
     {
         self.shelf.fill(at, len, byte);

@@ -3,6 +3,7 @@
 
 mod access;
 mod calls;
+mod canaries;
 mod free;
 mod holdings;
 mod junk;

@@ -1,12 +1,12 @@
 //! Allocation: of a chunk, or of a page block.
-ghost use Rattle.std.specs.Prelude.{◌≡◌, ◌+◌, ◌*◌, ◌-◌, ◌^◌, ◌<◌, ◌≤◌, Bool, true, false, IsTrue, [], length, Some, None, IsSome, IfSome};
+ghost use Rattle.std.specs.Prelude.{◌≡◌, ◌+◌, ◌*◌, ◌-◌, ◌^◌, ◌<◌, ◌≤◌, Bool, true, false, [], length, Some, None, IsSome, IfSome};
 ghost use Rattle.om_chunk.specs.Picks.{IsFreeOn};
 ghost use Rattle.om_geom.specs.Addresses.{address_of};
-ghost use Rattle.om_geom.specs.Classes.{data_pages, is_class};
+ghost use Rattle.om_geom.specs.Classes.{data_pages};
 ghost use Rattle.om_geom.specs.Numbers.{most_zones, zone_pages};
 ghost use Rattle.om_model.specs.Pool.Malloc.{is_too_large};
 ghost use Rattle.om_model.specs.Pool.Picks.{place_address};
-ghost use Rattle.om_model.specs.Pool.Rules.{size_class};
+ghost use Rattle.om_model.specs.Pool.Rules.{canary_byte, size_class};
 ghost use Rattle.om_model.specs.Pool.Runs.{run_of};
 ghost use Rattle.om_pages.specs.Tables as table;
 ghost use Rattle.om_pool.specs.Asking.{claim_in, IsAsked};
@@ -23,7 +23,7 @@ use crate::pool_core::Core;
 use om_broker::{Broker, Claim};
 use om_chunk::Picked;
 use om_geom::{Addr, Class, PAGE_SIZE, Page, ZONE_PAGES, addr_of, class_of, pages_of, stride};
-use om_model::{CallEntry, Drawn, Fault, LookList, Move, Op, Reply, Who, Why};
+use om_model::{Block, CallEntry, Drawn, Fault, LookList, Move, Op, Reply, Who, Why};
 use std::sync::Wait;
 
 /// What the broker answered, if it was asked, and the looks at the zones that a search passed over.
@@ -87,7 +87,7 @@ impl Core {
         let claim = claim_in(&search.answer);
         let address = self
             .state
-            .place(own, search.answer, class, second, size, site);
+            .place(own, search.answer, class, second, size, site, self.canary);
         let reply = block_or_null(self.state.opts.xmalloc, address);
         self.enter(CallEntry {
             who,
@@ -253,8 +253,10 @@ impl Holdings {
         word: u32,
         size: u64,
         site: u64,
+        canary: u8,
     ) -> Option<u64>
-        requires class { IsTrue (is_class class.0) }
+        requires class { size_class (rules_in self.old) size ≡ Some class.0 }
+        requires canary { canary ≡ canary_byte (rules_in self.old) }
         requires room { own ≡ None → 1 ≤ self.old.chunks.spare }
         requires own { IfSome own (IsOwnPlace self.old class.0) }
         requires zones { self.old.zones ≤ most_zones }
@@ -265,8 +267,8 @@ impl Holdings {
         ensures same { IsSameBut self.old self.new }
     {
         match own {
-            Some(found) => Some(self.settle_junk(found, class, size, site)),
-            None => self.place_claimed(answer, class, word, size, site),
+            Some(found) => Some(self.settle_filled(found, class, size, site, canary)),
+            None => self.place_claimed(answer, class, word, size, site, canary),
         }
     }
 
@@ -277,8 +279,10 @@ impl Holdings {
         word: u32,
         size: u64,
         site: u64,
+        canary: u8,
     ) -> Option<u64>
-        requires class { IsTrue (is_class class.0) }
+        requires class { size_class (rules_in self.old) size ≡ Some class.0 }
+        requires canary { canary ≡ canary_byte (rules_in self.old) }
         requires room { 1 ≤ self.old.chunks.spare }
         requires zones { self.old.zones ≤ most_zones }
         requires tied { IsTied self.old.zones (tables_in self.old) }
@@ -291,15 +295,23 @@ impl Holdings {
             Some(Claim::Claimed { at, frames }) => {
                 let page = first_page(at);
                 let found = self.claimed_place(page, frames, class, word);
-                Some(self.settle_junk(found, class, size, site))
+                Some(self.settle_filled(found, class, size, site, canary))
             }
             _ => None,
         }
     }
 
-    // Puts a block on the place, and fills it by the junk level. Gives its address.
-    fn settle_junk(&mut self, picked: Picked, class: Class, size: u64, site: u64) -> u64
-        requires class { IsTrue (is_class class.0) }
+    // Puts a block on the place, fills it by the junk level, and writes its canaries. Gives its address.
+    fn settle_filled(
+        &mut self,
+        picked: Picked,
+        class: Class,
+        size: u64,
+        site: u64,
+        canary: u8,
+    ) -> u64
+        requires class { size_class (rules_in self.old) size ≡ Some class.0 }
+        requires canary { canary ≡ canary_byte (rules_in self.old) }
         requires page { picked.page.0 < zone_pages * most_zones }
         requires held { HoldsPage self.old.shelf picked.page.0 }
         requires free { IsFreeOn self.old.chunks.pages class.0 picked.page.0 picked.place }
@@ -310,6 +322,12 @@ impl Holdings {
     {
         let address = self.settle(picked, class, size, site);
         self.fill_fresh(Addr(address), stride(class));
+        let block = Block {
+            address,
+            size,
+            site,
+        };
+        self.write_canaries(block, class, canary);
         address
     }
 

@@ -1,6 +1,7 @@
 ghost use Rattle.std.specs.Prelude.{◌≤◌};
 
 mod blocks;
+mod canaries;
 mod judges;
 mod lawful;
 mod trial;

@@ -1,5 +1,5 @@
 -- What holds of the head of accepted arguments, by the definition of the arguments alone.
-use Rattle.std.proofs.Common.{◌≡◌, refl, subst, sym, ap, Bool, true, false, cond, not, ◌||◌, ◌==◌, nat_le, List, [], ◌∷◌, ℕ, ◌<◌, ◌≤◌, length, arith, Option, Some, None, bytes_eq, codes}
+use Rattle.std.proofs.Common.{◌≡◌, refl, subst, sym, ap, Bool, true, false, cond, ◌==◌, nat_le, List, [], ◌∷◌, ℕ, ◌<◌, ◌≤◌, length, arith, Option, Some, None, bytes_eq, codes}
 use Rattle.std.specs.List.{slice_split}
 use Rattle.std.specs.Option.{option_map, option_and_then}
 use Rattle.std.proofs.lemmas.Bool.{leb-true}

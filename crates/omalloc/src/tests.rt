@@ -4,6 +4,7 @@ ghost use Rattle.std.specs.Prelude.{◌≤◌};
 
 mod blocks;
 mod cache;
+mod canaries;
 mod heads;
 mod limits;
 mod model;

@@ -1,6 +1,6 @@
 -- Free of an address, by what stands there: a miss where the page isn't held; bogus on a free page, on a guard and
 -- inside a page block; a modified pointer where no place begins; already free where the place is free. A delayed
--- place is freed again. A live place is put off: it enters the slot that a word chooses, and what the slot had is
+-- place is freed again. Of a live place with a broken canary that is told, and nothing changes but the word drawn. Any other is put off: it enters the slot that a word chooses, and what the slot had is
 -- evicted. The pages of a page block become free. A freed block is filled by the junk level. A run of pages that becomes free
 -- stays with the pool, or is let go where it is surplus.
 use Rattle.std.specs.Prelude.{ℕ, ◌%◌, Bool, false, not, ◌||◌, ◌==◌, nat_le, length, filter, Option, Some, None, slice_index_or, slice_set, if◌then◌else◌}
@@ -8,6 +8,7 @@ use Rattle.om_geom.specs.Addresses.{page_at}
 use Rattle.om_model.specs.Pool.Rules.{Rules, word_at, block_pages}
 use Rattle.om_model.specs.Pool.Runs.{Run}
 use Rattle.om_model.specs.Pool.State.{State, slot_count, drawn_more, without_pages}
+use Rattle.om_model.specs.Pool.Canaries.{broken_canary}
 use Rattle.om_model.specs.Pool.InUse.{uses, is_free_page, free_pages}
 use Rattle.om_model.specs.Pool.Junk.{with_freed_place, with_freed_pages}
 use Rattle.om_model.specs.Pool.Steps.{Step, unchanged}
@@ -15,7 +16,7 @@ use Rattle.om_model.specs.Pool.Standing.{Standing, NotHeld, FreePage, PageBlock,
 use Rattle.om_model.specs.declared.block.Block.{Block}
 use Rattle.om_model.specs.declared.block.Place.{Place}
 use Rattle.om_model.specs.declared.reply.Reply.TheVariants.{Done, Miss, Fault}
-use Rattle.om_model.specs.declared.reply.Fault.TheVariants.{DoubleFree, AlreadyFree, Bogus, ModifiedPointer}
+use Rattle.om_model.specs.declared.reply.Fault.TheVariants.{DoubleFree, AlreadyFree, Bogus, ModifiedPointer, Canary}
 
 -- a state after pages became free, and the run that was let go
 pub record Freed : Type 0 where
@@ -83,6 +84,14 @@ freed_again rules state address = record {
   next = drawn_more 1 state;
 }
 
+-- a broken canary is told; nothing changes but that the slot's word is drawn
+abbrev pub told_broken : State → ℕ → Step
+told_broken state offset = record { reply = Fault (Canary offset); words = 1; release = None; next = drawn_more 1 state }
+
+abbrev pub delay_unless : Option ℕ → Rules → State → Place → Step
+delay_unless (Some offset) rules state place = told_broken state offset
+delay_unless None rules state place = delay rules state place
+
 -- a page block leaves the live blocks, and its bytes are filled: its pages with the guard are a run that becomes free
 abbrev pub without_page_block : Rules → State → Block → Freed
 without_page_block rules state block =
@@ -98,7 +107,7 @@ free_at rules state address OnGuard = unchanged state (Fault Bogus)
 free_at rules state address Unaligned = unchanged state (Fault ModifiedPointer)
 free_at rules state address FreePlace = unchanged state (Fault AlreadyFree)
 free_at rules state address (DelayedPlace place) = freed_again rules state address
-free_at rules state address (LivePlace place block) = delay rules state place
+free_at rules state address (LivePlace place block) = delay_unless (broken_canary rules state block) rules state place
 
 abbrev pub free : Rules → State → ℕ → Step
 free rules state address = free_at rules state address (standing rules state address)

@@ -1,7 +1,7 @@
 -- Allocation of a block of so many bytes. For a chunk two words are drawn, the first for the page and the second
 -- for the place; for a page block one, for the run. The pool takes a page or a run that it has, or else claims
--- one, with the first word. At junk level 2 its whole place, or all its data pages, are filled; all other
--- bytes stay. What is too large for a zone is null at once.
+-- one, with the first word. At junk level 2 its whole place, or all its data pages, are filled; then the canaries behind
+-- a chunk are written, and all other bytes stay. What is too large for a zone is null at once.
 use Rattle.std.specs.Prelude.{ℕ, ◌+◌, Bool, ◌&&◌, nat_lt, [], ◌∷◌, ◌++◌, if◌then◌else◌, Option, Some, None, unwrap_or}
 use Rattle.std.specs.Option.{is_none}
 use Rattle.om_geom.specs.Addresses.{address_of}
@@ -9,6 +9,7 @@ use Rattle.om_geom.specs.Numbers.{zone_pages}
 use Rattle.om_model.specs.Pool.Rules.{Rules, word_at, size_class, block_pages}
 use Rattle.om_model.specs.Pool.Runs.{run_of}
 use Rattle.om_model.specs.Pool.State.{State, drawn_more, with_pages}
+use Rattle.om_model.specs.Pool.Canaries.{with_canaries}
 use Rattle.om_model.specs.Pool.InUse.{uses}
 use Rattle.om_model.specs.Pool.Junk.{with_fresh_junk}
 use Rattle.om_model.specs.Pool.Picks.{own_page, own_run, picked_place, place_address}
@@ -67,6 +68,10 @@ pub record Placed : Type 0 where
 abbrev pub with_block : Block → State → State
 with_block block state = record state { live = state.live ++ block ∷ [] }
 
+-- a block joins the live ones, and its bytes and its canaries are written
+abbrev pub entered : Rules → Block → State → State
+entered rules block state = with_canaries rules block (with_fresh_junk rules block (with_block block state))
+
 -- a chunk at the free place that the word chooses, a page block at the first byte of its run
 unfoldable pub address_on : Rules → State → ℕ → ℕ → Option ℕ → ℕ
 address_on rules state page word (Some class) = place_address page class (unwrap_or (picked_place (uses rules state) page class word) 0)
@@ -76,7 +81,7 @@ abbrev pub placed_on : Rules → State → ℕ → ℕ → ℕ → ℕ → Place
 placed_on rules state page word size site =
     let address = address_on rules state page word (size_class rules size) in
     let block : Block = record { address = address; size = size; site = site } in
-    record { address = Some address; next = with_fresh_junk rules block (with_block block state) }
+    record { address = Some address; next = entered rules block state }
 
 -- on the claimed pages, which join the held ones
 abbrev pub placed_by_claim : Rules → State → Option Move → ℕ → ℕ → ℕ → Placed

@@ -68,7 +68,7 @@ impl State {
     {
         match barred(head, pool, self, address)? {
             Some(bar) => unchanged(self, bar),
-            None => unchanged(self, Reply::Byte(self.memory.byte_at(address))),
+            None => unchanged(self, Reply::Byte(self.memory.byte_at(u128::from(address)))),
         }
     }
 

@@ -2,10 +2,11 @@
 ghost use Rattle.std.specs.Prelude.{◌≡◌, ◌^◌, ◌<◌, IfOk};
 ghost use Rattle.om_words.specs.PlannedWords.{HasWords};
 ghost use Rattle.om_model.specs.Output.Head.{rules_of};
-ghost use Rattle.om_model.specs.Pool.Free.{is_surplus, kept_or_let_go, evicted, without_block, drawn_slot, slot_of, into_slot, put_off, moved_to_slot, done_with, delay, slot_holds, freed_again, without_page_block, free_at, free};
+ghost use Rattle.om_model.specs.Pool.Free.{is_surplus, kept_or_let_go, evicted, without_block, drawn_slot, slot_of, into_slot, put_off, moved_to_slot, done_with, delay, delay_unless, told_broken, slot_holds, freed_again, without_page_block, free_at, free};
 ghost use Rattle.om_model.specs.Pool.State.{slot_count};
 ghost use Rattle.om_model.specs.Slow.{run_in, standing_in};
 
+use super::canaries::broken_canary;
 use super::in_use::{free_pages, is_free_page, uses};
 use super::junk::{with_freed_pages, with_freed_place};
 use super::rules::{block_pages, word_at};
@@ -175,6 +176,39 @@ fn delay(head: &Head, pool: u32, state: &State, place: Place) -> Result<Step, Al
     Ok(done_with(1, left))
 }
 
+// A broken canary is told; nothing changes but that the slot's word is drawn.
+fn told_broken(state: &State, offset: u64) -> Result<Step, AllocError>
+    requires { state.now.drawn < 2 ^ 63 }
+    ensures { IfOk result (λ step. step ≡ told_broken state.now offset) }
+{
+    let mut next = state.copy()?;
+    next.drawn += 1;
+    Ok(Step {
+        reply: Reply::Fault(Fault::Canary { offset }),
+        words: 1,
+        release: None,
+        next,
+    })
+}
+
+fn delay_unless(
+    head: &Head,
+    pool: u32,
+    broken: Option<u64>,
+    state: &State,
+    place: Place,
+) -> Result<Step, AllocError>
+    requires words { HasWords head.now.plan }
+    requires few { state.now.drawn < 2 ^ 63 }
+    ensures { IfOk result (λ step. step ≡
+        delay_unless broken (rules_of head.now pool) state.now place) }
+{
+    match broken {
+        Some(offset) => told_broken(state, offset),
+        None => delay(head, pool, state, place),
+    }
+}
+
 fn slot_holds(slot: Option<Place>, address: u64) -> bool
     ensures { result ≡ slot_holds slot address }
 {
@@ -251,7 +285,10 @@ fn free_at(
         Standing::Unaligned => unchanged(state, Reply::Fault(Fault::ModifiedPointer)),
         Standing::FreePlace => unchanged(state, Reply::Fault(Fault::AlreadyFree)),
         Standing::DelayedPlace(_) => freed_again(head, pool, state, address),
-        Standing::LivePlace(place, _) => delay(head, pool, state, place),
+        Standing::LivePlace(place, block) => {
+            let broken = broken_canary(head, pool, state, block)?;
+            delay_unless(head, pool, broken, state, place)
+        }
     }
 }
 

@@ -6,6 +6,7 @@ ghost use Rattle.om_model.specs.Output.Head.{rules_of};
 ghost use Rattle.om_model.specs.Pool.Malloc.{pages_for, words_for, is_too_large, page_by_class, page_for, placing_wish, address_on, placed_on, placed_by_claim, placing, malloc_wish, block_or_null, malloc};
 ghost use Rattle.om_model.specs.Slow.{wish_in, IsSmallClaim};
 
+use super::canaries::with_canaries;
 use super::in_use::{address_of, uses};
 use super::junk::with_fresh_junk;
 use super::picks::{own_page, own_run, picked_place, place_address};
@@ -141,6 +142,7 @@ fn placed_on(
     size: u64,
     site: u64,
 ) -> Result<Placed, AllocError>
+    requires { HasWords head.now.plan }
     ensures { IfOk result (λ placed. placed ≡
         placed_on (rules_of head.now pool) state page word size site) }
 {
@@ -153,7 +155,7 @@ fn placed_on(
     state.live.push(block)?;
     Ok(Placed {
         address: Some(address),
-        next: with_fresh_junk(head, pool, block, state),
+        next: with_canaries(head, pool, block, with_fresh_junk(head, pool, block, state)),
     })
 }
 
@@ -167,7 +169,8 @@ fn placed_by_claim(
     size: u64,
     site: u64,
 ) -> Result<Placed, AllocError>
-    requires { IsSmallClaim claim }
+    requires words { HasWords head.now.plan }
+    requires claim { IsSmallClaim claim }
     ensures { IfOk result (λ placed. placed ≡
         placed_by_claim (rules_of head.now pool) state claim word size site) }
 {

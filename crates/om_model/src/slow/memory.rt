@@ -1,7 +1,8 @@
 //! Memory: the bytes of each page of an arena, none for a page that isn't held.
-ghost use Rattle.std.specs.Prelude.{◌≡◌, ◌*◌, ◌+◌, ◌^◌, ◌<◌, [], length, replicate, slice_index, slice_set, IfOk, OnOk};
+ghost use Rattle.std.specs.Prelude.{◌≡◌, ◌==◌, not, ◌*◌, ◌+◌, ◌^◌, ◌<◌, [], length, replicate, slice_index, slice_set, IfOk, IfSome, OnOk};
+ghost use Rattle.std.specs.List.{position_from};
 ghost use Rattle.om_frame.specs.Frames.{with_frames, without_pages, zero_frames, zeros};
-ghost use Rattle.om_frame.specs.Memory.{no_pages, page_bytes, offset_at, byte_at, with_byte, filled};
+ghost use Rattle.om_frame.specs.Memory.{no_pages, page_bytes, offset_at, byte_at, bytes_at, first_other, with_byte, filled};
 
 use super::in_use::page_of;
 use om_geom::{FIRST_ADDRESS, PAGE_SIZE, ZONE_PAGES};
@@ -99,15 +100,45 @@ impl Memory {
     }
 
     /// The byte at the address.
-    pub(super) fn byte_at(&self, address: u64) -> u8
+    pub(super) fn byte_at(&self, address: u128) -> u8
+        requires { address < 2 ^ 70 }
         ensures { result ≡ byte_at self.now address }
     {
-        let page = page_of(u128::from(address)) as usize;
+        let page = page_of(address) as usize;
         if page < self.pages.len() {
-            byte_of(&self.pages[page], offset_of(u128::from(address)))
+            byte_of(&self.pages[page], offset_of(address))
         } else {
             0
         }
+    }
+
+    /// How far from the address, among so many bytes, the first stands that isn't the one given.
+    pub(super) fn first_other(
+        &self,
+        address: u128,
+        len: u128,
+        byte: u8,
+    ) -> Result<Option<usize>, AllocError>
+        requires start { address < 2 ^ 66 }
+        requires few { len < 2 ^ 66 }
+        ensures other { IfOk result (λ found. found ≡ first_other self.now address len byte) }
+        ensures within { IfOk result (λ found. IfSome found (λ i. i < len)) }
+    {
+        let bytes = self.bytes_at(address, len)?;
+        Ok(first_other_in(&bytes, byte))
+    }
+
+    fn bytes_at(&self, address: u128, len: u128) -> Result<Vec<u8>, AllocError>
+        requires start { address < 2 ^ 66 }
+        requires few { len < 2 ^ 66 }
+        ensures bytes { IfOk result (λ bytes. bytes.items ≡ bytes_at self.now address len) }
+        ensures long { IfOk result (λ bytes. length bytes.items ≡ len) }
+    {
+        let mut bytes = Vec::new(self.alloc);
+        for i in 0..len {
+            bytes.push(self.byte_at(address + i))?;
+        }
+        Ok(bytes)
     }
 
     /// Writes the byte at the address.
@@ -131,6 +162,14 @@ impl Memory {
             self.write(address + i, byte);
         }
     }
+}
+
+// Where the first byte stands that isn't the one given.
+fn first_other_in(bytes: &[u8], byte: u8) -> Option<usize>
+    ensures value { result ≡ position_from (λ other. not (other == byte)) 0 bytes.now }
+    ensures within { IfSome result (λ i. i < length bytes.now) }
+{
+    bytes.iter().position(|other| *other != byte)
 }
 
 // Nothing is written behind the end, and zero is read there.

@@ -67,6 +67,7 @@ fn zones_are_given(rt: HostRuntime) -> Result<(), Fail> {
 #[test]
 fn letters_give_the_flags(rt: HostRuntime) -> Result<(), Fail> {
     let cases = [
+        ("C", "C------"),
         ("G", "--G----"),
         ("U", "----U--"),
         ("GU", "--G-U--"),
@@ -75,12 +76,32 @@ fn letters_give_the_flags(rt: HostRuntime) -> Result<(), Fail> {
         ("fU", "----U--"),
         ("GUu", "--G----"),
         ("CFGUcf", "--G----"),
+        ("cFCf", "C------"),
         ("FGfU", "--G-U--"),
     ];
     for (letters, flags) in cases {
         let line = format!(in rt.alloc(); "run -o {letters} -w 0")?;
         let head = format!(in rt.alloc();
             "64 pools 1 flags {flags} junk 1 cache 64\nwords list 0\n"
+        )?;
+        gives_no_command(
+            &rt,
+            rt.alloc(),
+            line.as_str(),
+            head.as_str(),
+            "01 entries 0\n",
+        )?;
+    }
+    Ok(())
+}
+
+// S sets junk and the cache too.
+#[test]
+fn all_checks_without_freecheck(rt: HostRuntime) -> Result<(), Fail> {
+    for (letters, flags) in [("Sf", "C-G----"), ("SfU", "C-G-U--"), ("Scf", "--G----")] {
+        let line = format!(in rt.alloc(); "run -o {letters} -w 0")?;
+        let head = format!(in rt.alloc();
+            "64 pools 1 flags {flags} junk 2 cache 0\nwords list 0\n"
         )?;
         gives_no_command(
             &rt,

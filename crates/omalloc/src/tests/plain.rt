@@ -21,7 +21,8 @@ use std::test::Fail;
 use std::thread::Threads;
 
 // Commands over four names. A block that is freed is mostly followed by another, and else by a second free some
-// time. Fresh blocks are read at the end of their place, or written; so are those of 1 to 16 pages.
+// time. Fresh blocks are read at the end of their place, or written, under canaries over one of these; so are those of 1
+// to 16 pages.
 fn lines_of(alloc: Global, choice: u32) -> Result<String, AllocError> {
     let name = choice % 4;
     let byte = choice % 256;
@@ -31,7 +32,8 @@ fn lines_of(alloc: Global, choice: u32) -> Result<String, AllocError> {
         1..=7 => format!(in alloc;
             "free v{name}\nmalloc v{name} 2048\nstore v{name} 2047 {byte}\n"
         ),
-        8..=11 => format!(in alloc; "malloc v{name} 100\nload v{name} 127\n"),
+        8..=10 => format!(in alloc; "malloc v{name} 100\nload v{name} 127\n"),
+        11 => format!(in alloc; "malloc v{name} 100\nstore v{name} 127 {byte}\n"),
         12 => format!(in alloc; "malloc v{name} {large}\nload v{name} 2048\n"),
         _ => format!(in alloc; "free v{name}\nmalloc v{name} {large}\nstore v{name} 2048 {byte}\n"),
     }
@@ -181,5 +183,13 @@ fn the_plain_forms_write_the_same(rt: HostRuntime) -> Result<(), Fail> {
         1,
         "run -o GJ -z 1 -w 31,7",
         Status::Faulted,
+    )?;
+    writes_the_same(&rt, rt.alloc(), 3, "run -o C -s 3", Status::Faulted)?;
+    writes_the_same(
+        &rt,
+        rt.alloc(),
+        12,
+        "run -o CJ< -z 4 -s 4",
+        Status::Finished,
     )
 }

@@ -5,7 +5,7 @@ use Rattle.om_broker.specs.Claims.{HasFrames}
 use Rattle.om_chunk.specs.Pages.{place_in}
 use Rattle.om_frame.specs.Frames.{zero_frames}
 use Rattle.om_geom.specs.Addresses.{page_at}
-use Rattle.om_model.specs.Pool.Free.{Freed, evicted, free_at, put_off, slot_of}
+use Rattle.om_model.specs.Pool.Free.{Freed, delay_unless, evicted, free_at, put_off, slot_of}
 use Rattle.om_model.specs.Pool.Rules.{Rules, word_at}
 use Rattle.om_model.specs.Pool.State.{drawn_more, is_held}
 use Rattle.om_model.specs.declared.block.Place.{Place}
@@ -36,21 +36,21 @@ pub delay-before-requires-clause-place : goal.delay-before-requires-clause-place
 delay-before-requires-clause-place g c =
     let old = c.args.self.now in
     let place = c.args.place in
-    let here = lives (rules_in old.state) (tables_in old.state) (core_state old) (core-sound old c.requires.kept) c.requires.kept.tables c.args.address place c.requires.live.0 c.requires.live.1 in
+    let here = lives (rules_in old.state) (tables_in old.state) (core_state old) (core-sound old c.requires.kept) c.requires.kept.tables c.args.address place c.requires.whole.0 c.requires.whole.1 in
     ap (λ (x : Holdings). is_some (place_in x.chunks.pages place.address)) c.draw-word.ensures.same
     ∙ ap (λ a. is_some (place_in old.state.chunks.pages a)) here.place_is ∙ ap is_some here.has_is
 
 pub fill_freed-requires-clause-class : goal.fill_freed-requires-clause-class
 fill_freed-requires-clause-class g c =
     let old = c.args.self.now in
-    (lives (rules_in old.state) (tables_in old.state) (core_state old) (core-sound old c.requires.kept) c.requires.kept.tables c.args.address c.args.place c.requires.live.0 c.requires.live.1).class_is
+    (lives (rules_in old.state) (tables_in old.state) (core_state old) (core-sound old c.requires.kept) c.requires.kept.tables c.args.address c.args.place c.requires.whole.0 c.requires.whole.1).class_is
 
 pub fill_freed-requires-clause-bytes : goal.fill_freed-requires-clause-bytes
 fill_freed-requires-clause-bytes g c =
     let old = c.args.self.now in
     let Holds : List (List ℕ) → Type 0 = λ m. HoldsPlace m c.args.place in
     subst Holds (sym (ap (λ (t : Tables). t.memory) c.delay-before.ensures.tables ∙ ap (λ (x : Holdings). x.shelf) c.draw-word.ensures.same))
-    (place-bytes (rules_in old.state) (tables_in old.state) (core_state old) (core-sound old c.requires.kept) c.requires.kept.tables c.args.address c.args.place c.requires.live.0 c.requires.live.1)
+    (place-bytes (rules_in old.state) (tables_in old.state) (core_state old) (core-sound old c.requires.kept) c.requires.kept.tables c.args.address c.args.place c.requires.whole.0 c.requires.whole.1)
 
 pub evict-release-requires-clause-place : goal.evict-release-requires-clause-place
 evict-release-requires-clause-place g c =
@@ -65,7 +65,7 @@ evict-release-requires-clause-place g c =
     let fills = c.fill_freed.ensures in
     let was = sym (waits.before ∙ ap (λ (x : Holdings). slice_index_or x.slots slot None) draws ∙ ap (λ (slots : List (Option Place)). slice_index_or slots slot None) is.tables.slots) in
     if-some (IsThere c.fill_freed.new.self) c.delay-before.result (λ gone gone_is.
-    gone-there rules tables (drawn_more 1 start) (drawn_more-sound rules 1 start (core-sound old is)) (words-drawn rules tables start is.tables 1) c.args.address c.args.place c.requires.live.0 c.requires.live.1
+    gone-there rules tables (drawn_more 1 start) (drawn_more-sound rules 1 start (core-sound old is)) (words-drawn rules tables start is.tables 1) c.args.address c.args.place c.requires.whole.0 c.requires.whole.1
     slot (mod_below c.draw-word.result 16 (omega arith)) gone (was ∙ gone_is) c.fill_freed.new.self
     (filled-tables old.state c.draw-word.new.self c.delay-before.new.self c.fill_freed.new.self slot c.args.place draws waits.tables waits.same fills.tables fills.same) is.few_zones)
 
@@ -84,7 +84,7 @@ evict-release-requires-clause-has g c =
     (λ page low high.
     let same : page ≡ page_at gone.address = omega arith in
     ap (is_held start.held) same
-    ∙ gone-is_held rules tables (drawn_more 1 start) (drawn_more-sound rules 1 start (core-sound old is)) (words-drawn rules tables start is.tables 1) c.args.address c.args.place c.requires.live.0 c.requires.live.1
+    ∙ gone-is_held rules tables (drawn_more 1 start) (drawn_more-sound rules 1 start (core-sound old is)) (words-drawn rules tables start is.tables 1) c.args.address c.args.place c.requires.whole.0 c.requires.whole.1
     slot (mod_below c.draw-word.result 16 (omega arith)) gone (was ∙ gone_is)))
 
 pub returns : goal.returns
@@ -117,12 +117,12 @@ returns g c =
     let Gives : Rules → Tables → Type 0 = λ r t. GivesOf g.B.Broker r t b b_new before release in
     let gives : Gives rules filled = subst (Gives rules) is_filled (subst (λ r. Gives r (tables_in own)) ruled evicts.gives) in
     let left : Freed = evicted rules (put_off rules state slot place) before in
-    let leaves = put-off-leaves rules tables state (drawn_more-sound rules 1 start (core-sound old is)) (words-drawn rules tables start is.tables 1) c.args.address place c.requires.live.0 c.requires.live.1
+    let leaves = put-off-leaves rules tables state (drawn_more-sound rules 1 start (core-sound old is)) (words-drawn rules tables start is.tables 1) c.args.address place c.requires.whole.0 c.requires.whole.1
     slot (mod_below c.draw-word.result 16 (omega arith)) g.B.Broker before was b b_new release gives in
     let stood : tables_in new.state ≡ left_tables rules filled before =
     ap (λ (x : Core). tables_in x.state) same ∙ evicts.tables ∙ ap (λ r. left_tables r (tables_in own) before) ruled ∙ ap (λ t. left_tables rules t before) is_filled in
     let Stands : Tables → Type 0 = λ t. StandFor rules t left.next in
-    let step_is = ap (free_at rules start c.args.address) c.requires.live.1 ∙ delay-is rules start place slot before (ap (λ w. w % 16) word) (sym was) in
+    let step_is = ap (free_at rules start c.args.address) c.requires.whole.1 ∙ ap (λ broken. delay_unless broken rules start place) c.requires.whole.2 ∙ delay-is rules start place slot before (ap (λ w. w % 16) word) (sym was) in
     let done = free-done g.B.Broker old new b b_new c.args.who c.args.address 1 c.one.result left release is c.requires.backed
     (record {
       wish = refl;

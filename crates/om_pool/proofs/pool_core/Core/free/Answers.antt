@@ -36,10 +36,10 @@ free_again-requires-clause-is g c =
     let place = c.in-DelayedPlace.place in
     frees-at c.args.self.now c.args.address (at.DelayedPlace place) (means-at c.args.self.now c.args.address c.requires.kept (code.DelayedPlace place) (sym c.in-DelayedPlace.is ∙ c.standing.ensures))
 
-pub delay-requires-clause-live : goal.delay-requires-clause-live
-delay-requires-clause-live g c =
+pub free_place-requires-clause-live : goal.free_place-requires-clause-live
+free_place-requires-clause-live g c =
     let live = c.in-LivePlace in
-    (live.block, means-at c.args.self.now c.args.address c.requires.kept (code.LivePlace live.place live.block) (sym live.is ∙ c.standing.ensures))
+    means-at c.args.self.now c.args.address c.requires.kept (code.LivePlace live.place live.block) (sym live.is ∙ c.standing.ensures)
 
 pub free_block-requires-clause-block : goal.free_block-requires-clause-block
 free_block-requires-clause-block g c =

@@ -11,7 +11,7 @@ use Rattle.om_model.specs.Pool.InUse.{uses}
 use Rattle.om_model.specs.Pool.Journal.{MayAnswer}
 use Rattle.om_model.specs.Pool.Malloc.{page_for, pages_by_class, pages_for, placed_where, words_by_class}
 use Rattle.om_model.specs.Pool.Picks.{own_page}
-use Rattle.om_model.specs.Pool.Rules.{Rules, size_class, word_at}
+use Rattle.om_model.specs.Pool.Rules.{Rules, canary_byte, size_class, word_at}
 use Rattle.om_model.specs.Pool.State.{drawn_more, is_held}
 use Rattle.om_model.specs.Pool.Steps.{Wish}
 use Rattle.om_model.specs.declared.entry.Entry.TheVariants.{Call}
@@ -20,7 +20,7 @@ use Rattle.om_model.specs.declared.operation.Op.TheVariants.{Malloc}
 use Rattle.om_pool.specs.Asking.{claim_in, IsAsked}
 use Rattle.om_pool.specs.Backing.{IsBacked}
 use Rattle.om_pool.specs.CoreKept.{core_state, IsCore}
-use Rattle.om_pool.specs.HoldingsView.{rules_in, tables_in, with_drawn}
+use Rattle.om_pool.specs.HoldingsView.{rules_in, tables_in, with_drawn, IsSameBut}
 use Rattle.om_pool.specs.Malloc.{reply_for, IsFor, IsOwnPlace, PlacesBlock}
 use Rattle.om_pool.specs.TableSteps.{IsTied, OwnPlace}
 use Rattle.om_pool.specs.Tables.{Tables, StandFor}
@@ -48,15 +48,29 @@ drawn-same old one two first second =
     let sum : old.words.place + 1 + 1 ≡ old.words.place + 2 = omega arith in
     second ∙ ap (with_drawn 1) first ∙ ap (λ n. record old { words = record old.words { place = n } }) sum
 
+-- the rules stay while the words are drawn and the zones are asked
+asked-rules : (old one two own : Holdings) (asked : Core) → one ≡ with_drawn 1 old → two ≡ with_drawn 1 one → IsSameBut two own → asked.state ≡ own → rules_in asked.state ≡ rules_in old
+asked-rules old one two own asked first second kept at = ap rules_in at ∙ same-rules two own kept ∙ ap rules_in (drawn-same old one two first second)
+
+pub place-address-requires-clause-class : goal.place-address-requires-clause-class
+place-address-requires-clause-class g c =
+    let old = c.args.self.now in
+    ap (λ r. size_class r c.args.size)
+    (asked-rules old.state c.draw-first.new.self c.draw-second.new.self c.own_place-own.new.self c.ask-search.new.self c.draw-first.ensures.same c.draw-second.ensures.same c.own_place-own.ensures.same (ap (λ (x : Core). x.state) c.ask-search.ensures.same))
+    ∙ c.requires.class
+
+pub place-address-requires-clause-canary : goal.place-address-requires-clause-canary
+place-address-requires-clause-canary g c =
+    let old = c.args.self.now in
+    ap (λ (x : Core). x.canary) c.ask-search.ensures.same ∙ c.requires.kept.canary
+    ∙ ap canary_byte (sym (asked-rules old.state c.draw-first.new.self c.draw-second.new.self c.own_place-own.new.self c.ask-search.new.self c.draw-first.ensures.same c.draw-second.ensures.same c.own_place-own.ensures.same (ap (λ (x : Core). x.state) c.ask-search.ensures.same)))
+
 -- the second word
 second-word : (old : Core) (one : Holdings) → one ≡ with_drawn 1 old.state → IsCore old → (second : ℕ) → second ≡ word_at (rules_in one) one.words.place → second ≡ word_at (rules_in old.state) ((core_state old).drawn + 1)
 second-word old one same is second second_is = second_is ∙ ap (λ (x : Holdings). word_at (rules_in x) x.words.place) same ∙ ap (λ n. word_at (rules_in old.state) (n + 1)) is.drawn
 
 pub own_place-own-requires-clause-class : goal.own_place-own-requires-clause-class
 own_place-own-requires-clause-class g c = class_of-is_class c.args.size (rules_in c.args.self.now.state).options.canary c.args.class.0 c.requires.class
-
-pub place-address-requires-clause-class : goal.place-address-requires-clause-class
-place-address-requires-clause-class g c = class_of-is_class c.args.size (rules_in c.args.self.now.state).options.canary c.args.class.0 c.requires.class
 
 pub own_place-own-requires-clause-tied : goal.own_place-own-requires-clause-tied
 own_place-own-requires-clause-tied g c =
