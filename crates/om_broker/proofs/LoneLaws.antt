@@ -15,16 +15,17 @@ use Rattle.om_frame.specs.Memory.{is_held, no_pages}
 use Rattle.om_geom.specs.BitLaws.{has_bit-zero}
 use Rattle.om_geom.specs.Fit.{has_bit, is_in_run}
 use Rattle.om_model.proofs.Each.{all-append}
+use Rattle.om_model.specs.Pool.Journal.{NamesSearched}
 use Rattle.om_model.specs.Pool.Runs.{run_of}
 use Rattle.om_model.specs.declared.entry.Move.{Move}
 use Rattle.om_model.specs.declared.entry.ZoneMove.{ZoneMove}
 use Rattle.om_model.specs.declared.looks.Look.{Look}
-use Rattle.om_broker.specs.Claims.{AreZeros, HasFrames, NamesSearched, first_page, ShowsFull, ShowsHeld, ShowsMove, ShowsNothingElse, ShowsPlace, ShowsSearch}
+use Rattle.om_broker.specs.Claims.{AreZeros, HasFrames, first_page, ShowsFull, ShowsHeld, ShowsMove, ShowsNothingElse, ShowsPlace, ShowsSearch}
 use Rattle.om_broker.specs.declared.broker.Claim.TheVariants as claim
 use Rattle.om_broker.specs.declared.broker.ClaimAt.TheVariants as at
 use Rattle.om_broker.specs.Lone.{IsHome, IsLone, Lone, lone_share}
 use Rattle.om_broker.specs.Sights.{HasRun, IsLeft, LacksRun, Seen, claimed, released}
-use Rattle.om_broker.specs.Zones.{ZoneTable, AreFree, ArePassed, HasHeld, IsClaimed, IsMoved, IsReleased, IsTaken, count_bits, is_bit_held, is_page_held, look_of, moves_made, next_move, pages_held, searched_in, version_of}
+use Rattle.om_broker.specs.Zones.{ZoneTable, AreFree, ArePassed, HasHeld, IsClaimed, IsFoundClaim, IsMoved, IsReleased, count_bits, is_bit_held, is_page_held, look_of, moves_made, next_move, pages_held, searched_in, version_of}
 use Rattle.om_broker.specs.ZoneStand.{HasMade, seen_in}
 use Rattle.om_broker.proofs.HomeLaws.{all-home, come-inside, come-outside, left-inside, left-outside}
 use Rattle.om_broker.proofs.Lists.{all-range, count-both, count-run}
@@ -36,8 +37,8 @@ use mathlib.Core.Logic.{⊎_elim}
 
 module _ (old new : ZoneTable) (zone first n : ℕ) (within : first + n ≤ 32) where
   -- they are held after a claim, and the others stay
-  taken-pages : (move : Move) → IsTaken old new zone first n move → (page : ℕ) → is_page_held new page ≡ (is_page_held old page || is_in_run (32 * zone + first) n page)
-  taken-pages move taken page = ⊎_elim
+  claimed-pages : (move : Move) → IsClaimed old new zone first n move → (page : ℕ) → is_page_held new page ≡ (is_page_held old page || is_in_run (32 * zone + first) n page)
+  claimed-pages move taken page = ⊎_elim
       (λ z. ap (λ y. is_bit_held new y (page % 32)) z ∙ taken.held (page % 32) (omega arith)
       ∙ ap (λ y. is_bit_held old y (page % 32) || is_in_run first n (page % 32)) (sym z)
       ∙ ap (λ b. is_page_held old page || b) (sym (run-shift zone first n page z)))
@@ -58,8 +59,8 @@ module _ (old new : ZoneTable) (zone first n : ℕ) (within : first + n ≤ 32) 
       (cases_eq (page / 32) zone)
 
   -- so many bits more are set, or fewer
-  taken-count : (move : Move) → IsTaken old new zone first n move → AreFree old zone first n → count_bits (slice_index new.bits zone) ≡ count_bits (slice_index old.bits zone) + n
-  taken-count move taken free =
+  claimed-count : (move : Move) → IsClaimed old new zone first n move → AreFree old zone first n → count_bits (slice_index new.bits zone) ≡ count_bits (slice_index old.bits zone) + n
+  claimed-count move taken free =
       let run = count-run first n 0 32 (omega arith) (omega arith) in
       count-both (is_bit_held old zone) (is_in_run first n) (is_bit_held new zone) 0 32 (λ i from to. ⊎_elim
       (λ inside. rw (taken.held i (omega arith), free.clear i inside.0 inside.1, in-run first n i inside.0 inside.1) refl)
@@ -117,13 +118,13 @@ module _ (lone : Lone) (is : IsLone lone) (new : ZoneTable) (zone first n : ℕ)
   pub frames-there : AreFree old zone first n → AreHeld lone.home page n
   frames-there free p from to = (is.home).others p (omega arith) ∙ ap not (free-page free p from to)
 
-  pub taken-lone : (move : Move) → AreFree old zone first n → IsTaken old new zone first n move → n + 1 ≤ lone.left → (asks : ℕ)
+  pub claimed-lone : (move : Move) → AreFree old zone first n → IsClaimed old new zone first n move → n + 1 ≤ lone.left → (asks : ℕ)
       → IsLone (record { table = new; home = without_pages lone.home page n; left = lone.left - (n + 1); asks = asks })
-  taken-lone move free taken enough asks =
+  claimed-lone move free taken enough asks =
       let long = lengths taken.moved in
       let made = counted taken.moved in
       let pages = moved-pages old new zone taken.moved there in
-      let bits = taken-count old new zone first n within move taken free in
+      let bits = claimed-count old new zone first n within move taken free in
       let share = is.share in
       record {
         some = let some = is.some in omega arith;
@@ -133,9 +134,9 @@ module _ (lone : Lone) (is : IsLone lone) (new : ZoneTable) (zone first n : ℕ)
         home = record {
           pages = length-with_frames lone.home (map empty_frame (range_with_len page n)) ∙ (is.home).pages ∙ ap (λ (k : ℕ). 32 * k) (sym long);
           others = λ p low. ⊎_elim
-              (λ inside. let now : is_page_held new p ≡ true = taken-pages old new zone first n within move taken p ∙ rw (in-run page n p inside.0 inside.1) (or-true (is_page_held old p)) in
+              (λ inside. let now : is_page_held new p ≡ true = claimed-pages old new zone first n within move taken p ∙ rw (in-run page n p inside.0 inside.1) (or-true (is_page_held old p)) in
               left-inside lone.home page n p inside.0 inside.1 fits ∙ ap not (sym now))
-              (λ outside. let now : is_page_held new p ≡ is_page_held old p = taken-pages old new zone first n within move taken p ∙ rw (not-in-run page n p outside) (or-false (is_page_held old p)) in
+              (λ outside. let now : is_page_held new p ≡ is_page_held old p = claimed-pages old new zone first n within move taken p ∙ rw (not-in-run page n p outside) (or-false (is_page_held old p)) in
               left-outside lone.home page n p outside ∙ (is.home).others p (omega arith) ∙ ap not (sym now))
               (run-cases page n p);
         };
@@ -274,20 +275,20 @@ module _ (old new : ZoneTable) (moves : List ZoneMove) (sight : List Seen) (made
       subst Lacks (sym is) (lacks-free old moves sight made zone first n free)
 
   module _ (n word : ℕ) (looks : List Look) (passed : ArePassed old n word looks) where
-    pub claim-adds : (move : Move) (frames : List PageBytes) → IsClaimed old new n word (length looks) move
+    pub claim-adds : (move : Move) (frames : List PageBytes) → IsFoundClaim old new n word (length looks) move
         → MovedWith (claimed move (Some word)) (ShowsSearch n word looks (claim.Claimed move frames) moves sight)
     claim-adds move frames is =
         let found = is.found in
         let free = found.free in
         let some : 1 ≤ length old.bits = let few = found.few in omega arith in
-        let step = claim-next moves old new move.zone move.first n made.stands free.there free.within move (Some word) free is.taken found.first_is in
+        let step = claim-next moves old new move.zone move.first n made.stands free.there free.within move (Some word) free is.claimed found.first_is in
         let items = looked old moves sight made n word looks passed some in (
           items ++ seen_in new move.zone ∷ [],
           adds-move old moves sight made new (claimed move (Some word)) step items (looked-left old moves sight made n word looks passed some),
           (shows-move old moves sight made new (claimed move (Some word)) step items, tt),
           record {
             looks_are = looks-shown old moves sight made n word looks passed some (seen_in new move.zone ∷ []);
-            lacks = lacks-move move.zone move.first n move (is.taken).move_is free;
+            lacks = lacks-move move.zone move.first n move (is.claimed).move_is free;
           },
         )
 
@@ -305,7 +306,7 @@ module _ (old new : ZoneTable) (moves : List ZoneMove) (sight : List Seen) (made
         )
 
   module _ (zone first n : ℕ) where
-    pub given-adds : (move : Move) (frames : List PageBytes) → AreFree old zone first n → IsTaken old new zone first n move
+    pub given-adds : (move : Move) (frames : List PageBytes) → AreFree old zone first n → IsClaimed old new zone first n move
         → MovedWith (claimed move None) (ShowsPlace first n (at.Claimed move frames) moves sight)
     given-adds move frames free taken =
         let step = claim-next moves old new zone first n made.stands free.there free.within move None free taken tt in (

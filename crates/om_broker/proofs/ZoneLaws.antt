@@ -13,7 +13,7 @@ use Rattle.om_model.specs.Zones.Order.{IsLawfulMove, is_at, last_version, owner,
 use Rattle.om_model.specs.declared.entry.Move.{Move}
 use Rattle.om_model.specs.declared.entry.ZoneMove.{ZoneMove}
 use Rattle.om_broker.specs.Sights.{Has, IsLeft, IsNewer, IsNoOlder, Seen, claimed, gives_back, released}
-use Rattle.om_broker.specs.Zones.{ZoneTable, AreFree, IsMoved, IsReleased, IsTaken, count_bits, fit_in, is_bit_held, is_page_held, moves_made, pages_held, version_of}
+use Rattle.om_broker.specs.Zones.{ZoneTable, AreFree, IsClaimed, IsMoved, IsReleased, count_bits, fit_in, is_bit_held, is_page_held, moves_made, pages_held, version_of}
 use Rattle.om_broker.specs.ZoneStand.{IsOwnMove, Stands, seen_in}
 use Rattle.om_broker.proofs.Lists.{all-contained, find-one}
 use Rattle.om_broker.proofs.Runs.{run-shift, run-zone}
@@ -174,7 +174,7 @@ module _ (moves : List ZoneMove) (old new : ZoneTable) (zone first n : ℕ) (sta
   same : (bit : ℕ) → bit < 32 → is_some (owner moves zone (version_of old zone + 1 - 1) bit) ≡ is_bit_held old zone bit
   same bit low = ap (λ u. is_some (owner moves zone u bit)) (let last = stands.versions zone there in let e : version_of old zone + 1 - 1 ≡ last_version moves zone = omega arith in e) ∙ sym (stands.bits zone bit there low)
 
-  pub claim-next : (move : Move) (search : Option ℕ) → AreFree old zone first n → IsTaken old new zone first n move → IfSome search (λ word. fit_in old n word zone ≡ Some first) → IsNextMove moves old new (claimed move search)
+  pub claim-next : (move : Move) (search : Option ℕ) → AreFree old zone first n → IsClaimed old new zone first n move → IfSome search (λ word. fit_in old n word zone ≡ Some first) → IsNextMove moves old new (claimed move search)
   claim-next move search free taken found =
       let Goal : Move → Type 0 = λ made. IsNextMove moves old new (claimed made search) in
       subst Goal (sym taken.move_is) (record {

@@ -1,6 +1,6 @@
 -- What a broker answers, and what a call adds to what it has made and seen.
-use Rattle.std.specs.Prelude.{◌≡◌, ℕ, ◌+◌, ◌-◌, ◌^◌, ◌<◌, ◌≤◌, true, List, [], ◌∷◌, ◌++◌, length, map, min, Some, None, Contains}
-use Rattle.std.specs.List.{AllByRecursion, range_with_len}
+use Rattle.std.specs.Prelude.{◌≡◌, ℕ, ◌+◌, ◌-◌, ◌^◌, ◌<◌, ◌≤◌, true, List, [], ◌∷◌, ◌++◌, length, min, Some, None, Contains}
+use Rattle.std.specs.List.{AllByRecursion}
 use Rattle.om_frame.specs.Frames.{PageBytes, zero_frames}
 use Rattle.om_geom.specs.Addresses.{bit_of, zone_of}
 use Rattle.om_geom.specs.Fit.{fit_of, has_bit, searched_bit, searched_zone}
@@ -20,10 +20,6 @@ abbrev pub one_more_ask : ℕ → ℕ
 one_more_ask asks = min (asks + 1) (2 ^ 64 - 1)
 
 -- ---- a search by a word
-
--- the looks name the zones that come first, in their order
-abbrev pub NamesSearched : ℕ → ℕ → List Look → Type 0
-NamesSearched zones word looks = map (λ look. look.zone) looks ≡ map (searched_zone zones word) (range_with_len 0 (length looks))
 
 -- the claim of so many pages is in the zone after those that were passed over, and its frames are zeros
 pub record IsFound (zones n word passed : ℕ) (move : Move) (frames : List PageBytes) : Type 0 where

@@ -79,8 +79,8 @@ pub record IsMoved (old new : ZoneTable) (zone : ℕ) : Type 0 where
   pub bits : new.bits ≡ slice_set old.bits zone (slice_index new.bits zone)
   pub versions : new.versions ≡ slice_set old.versions zone (version_of old zone + 1)
 
--- the move takes so many pages of the zone, from the first on
-pub record IsTaken (old new : ZoneTable) (zone first n : ℕ) (move : Move) : Type 0 where
+-- the move claims so many pages of the zone, from the first on
+pub record IsClaimed (old new : ZoneTable) (zone first n : ℕ) (move : Move) : Type 0 where
   pub move_is : move ≡ next_move old zone first n
   pub moved : IsMoved old new zone
   pub held : (bit : ℕ) → bit < zone_pages → is_bit_held new zone bit ≡ (is_bit_held old zone bit || is_in_run first n bit)
@@ -92,14 +92,14 @@ pub record IsFoundIn (table : ZoneTable) (n word passed : ℕ) (zone first : ℕ
   pub first_is : fit_in table n word zone ≡ Some first
   pub free : AreFree table zone first n
 
-pub record IsClaimed (old new : ZoneTable) (n word passed : ℕ) (move : Move) : Type 0 where
+pub record IsFoundClaim (old new : ZoneTable) (n word passed : ℕ) (move : Move) : Type 0 where
   pub found : IsFoundIn old n word passed move.zone move.first
-  pub taken : IsTaken old new move.zone move.first n move
+  pub claimed : IsClaimed old new move.zone move.first n move
 
 -- with no claim every zone was passed over, and none has changed
 abbrev pub ClaimGives : ZoneTable → ZoneTable → ℕ → ℕ → ℕ → Option Move → Type 0
 ClaimGives old new n word passed None = (passed ≡ length old.bits) × (new ≡ old)
-ClaimGives old new n word passed (Some move) = IsClaimed old new n word passed move
+ClaimGives old new n word passed (Some move) = IsFoundClaim old new n word passed move
 
 -- so many pages of the zone, from the first on, are given up
 pub record IsReleased (old new : ZoneTable) (zone first n : ℕ) (move : Move) : Type 0 where

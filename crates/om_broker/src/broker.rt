@@ -2,9 +2,10 @@
 ghost use Rattle.std.specs.Prelude.{◌≡◌, ℕ, ◌+◌, ◌<◌, ◌≤◌, List, [], ◌∷◌, length};
 ghost use Rattle.std.specs.List.{AllByRecursion};
 ghost use Rattle.om_geom.specs.Numbers.{zone_pages};
+ghost use Rattle.om_model.specs.Pool.Journal.{NamesSearched};
 ghost use Rattle.om_model.specs.Zones.Order.{IsZoneOrder};
 ghost use Rattle.om_model.specs.declared.entry.ZoneMove.{ZoneMove};
-ghost use Rattle.om_broker.specs.Claims.{one_more_ask, NamesSearched, Finds, Spends, moves_of_claim, ShowsSearch, FindsAt, SpendsAt, moves_of_claim_at, ShowsPlace, AreZeros, HasFrames, IsGivenBack, ShowsNothingElse, Adds};
+ghost use Rattle.om_broker.specs.Claims.{one_more_ask, Finds, Spends, moves_of_claim, ShowsSearch, FindsAt, SpendsAt, moves_of_claim_at, ShowsPlace, AreZeros, HasFrames, IsGivenBack, ShowsNothingElse, Adds};
 ghost use Rattle.om_broker.specs.Sights.{Seen, IsLeft, released};
 
 use om_frame::Bundle;

@@ -2,7 +2,7 @@
 ghost use Rattle.std.specs.Prelude.{◌≡◌, ℕ, ◌+◌, ◌-◌, ◌^◌, ◌<◌, ◌≤◌, true, false, [], length, Some, None, IfOk, IfErr, IfSome, IfNone, replicate, slice_index, slice_set};
 ghost use Rattle.om_geom.specs.Fit.{has_bit, is_clear_run};
 ghost use Rattle.om_geom.specs.Numbers.{zone_pages, most_zones};
-ghost use Rattle.om_broker.specs.Zones.{ZoneTable, ArePassed, AreFree, ClaimGives, HasHeld, IsFoundIn, IsReleased, IsTaken, is_bit_held, version_of};
+ghost use Rattle.om_broker.specs.Zones.{ZoneTable, ArePassed, AreFree, ClaimGives, HasHeld, IsClaimed, IsFoundIn, IsReleased, is_bit_held, version_of};
 
 use om_geom::{ZONE_PAGES, clear_run, fit, set_run};
 use om_model::{Look, LookList, Move};
@@ -74,7 +74,7 @@ impl Zones {
         requires zone { zone < length self.old.bits }
         requires version { version_of self.old zone < 2 ^ 32 - 1 }
         ensures free { IfOk result (λ _. AreFree self.old zone first n) }
-        ensures taken { IfOk result (IsTaken self.old self.new zone first n) }
+        ensures claimed { IfOk result (IsClaimed self.old self.new zone first n) }
         ensures held { IfErr result (λ _. HasHeld (is_bit_held self.old zone) first n) }
         ensures look { IfErr result (λ look.
             look ≡ record { zone = zone; version = version_of self.old zone }) }
@@ -127,7 +127,7 @@ impl Zones {
         requires within { first + n ≤ zone_pages }
         requires zone { zone < length self.old.bits }
         requires version { version_of self.old zone < 2 ^ 32 - 1 }
-        ensures { IsTaken self.old self.new zone first n result }
+        ensures { IsClaimed self.old self.new zone first n result }
     {
         let bits = set_run(self.bits[zone as usize], first, n);
         self.put(bits, zone, first, n)

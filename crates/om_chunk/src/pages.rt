@@ -36,7 +36,8 @@ pub struct ChunkPages {
 }
 
 impl Model for ChunkPages {
-    ghost use Rattle.std.specs.Prelude.{◌≡◌, ◌≤◌, List, [], length, if◌then◌else◌, is_some, IfSome, vec_capacity};
+    ghost use Rattle.std.specs.Prelude.{◌≡◌, ◌*◌, ◌≤◌, List, [], length, if◌then◌else◌, is_some, IfSome, vec_capacity};
+    ghost use Rattle.om_geom.specs.Numbers.{zone_pages, most_zones};
     ghost use Rattle.om_chunk.specs.OpenSets.{AreOpen};
     ghost use Rattle.om_chunk.specs.Pages.{PageList};
 
@@ -47,7 +48,7 @@ impl Model for ChunkPages {
       spare = if is_some c.room then 1 else 0;
     } };
 
-    ghost invariant = { λ c. (length c.pages.items ≤ 2048)
+    ghost invariant = { λ c. (length c.pages.items ≤ zone_pages * most_zones)
         × IfSome c.room (λ room. (room.items ≡ []) × (256 ≤ vec_capacity room))
         × AreOpen c.pages.items c.listed };
 }
@@ -137,11 +138,8 @@ impl ChunkPages {
         requires { IsSome (page_with self.now.pages addr.0) }
         ensures { result ≡ state_of (place_in self.now.pages addr.0) }
     {
-        let place = match self.page(page_at(addr)) {
-            Some(page) => page.place_at(offset_of(addr)),
-            None => None,
-        };
-        state_of(place)
+        let page = self.page(page_at(addr));
+        state_of(page.and_then(|page| page.place_at(offset_of(addr))))
     }
 
     /// The class of a page.

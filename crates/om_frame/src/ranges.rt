@@ -1,5 +1,5 @@
-ghost use Rattle.std.specs.Prelude.{◌≡◌, ◌+◌, ◌<◌, ◌≤◌, ◌==◌, not, length, IfSome};
-ghost use Rattle.std.specs.List.{position_from};
+ghost use Rattle.std.specs.Prelude.{◌≡◌, ◌+◌, ◌<◌, ◌≤◌, ◌==◌, ◌&&◌, not, true, length, IfSome};
+ghost use Rattle.std.specs.List.{fold, position_from};
 ghost use Rattle.om_geom.specs.Numbers.{page_size, first_address};
 ghost use Rattle.om_frame.specs.Memory.{offset_at, filled, first_other, IsHeldPart};
 
@@ -47,7 +47,19 @@ fn first_other_in(bytes: &[u8], byte: u8) -> Option<usize>
     ensures value { result ≡ position_from (λ other. not (other == byte)) 0 bytes.now }
     ensures within { IfSome result (λ offset. offset < length bytes.now) }
 {
+    if are_all(bytes, byte) {
+        return None;
+    }
     bytes.iter().position(|other| *other != byte)
+}
+
+// Whether all bytes are the one given. No byte ends the loop, so many are compared at once.
+fn are_all(bytes: &[u8], byte: u8) -> bool
+    ensures { result ≡ fold (λ equal other. equal && (other == byte)) true bytes.now }
+{
+    bytes
+        .iter()
+        .fold(true, |equal, other| equal & (*other == byte))
 }
 
 /// How many of `len` bytes from an address of the arena on are on its page.

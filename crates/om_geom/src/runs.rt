@@ -1,14 +1,17 @@
 ghost use Rattle.std.specs.Prelude.{◌≡◌, ℕ, ◌+◌, ◌-◌, ◌^◌, ◌<◌, ◌≤◌, false, ◌&&◌, ◌||◌, not, IfSome};
 ghost use Rattle.om_geom.specs.Fit.{fit_of, has_bit, is_clear_run, is_in_run};
+ghost use Rattle.om_geom.specs.Numbers.{zone_pages};
 
-/// The first place of a run of `n` clear bits among the 32, in cyclic order from `start`; none
-/// where there is no such run. A run doesn't go past bit 31.
+use crate::address::ZONE_PAGES;
+
+/// Of a zone's bits, one for each page, the first place of a run of `n` clear ones, in cyclic order
+/// from `start`; none where there is no such run. A run doesn't go past bit 31.
 pub fn fit(bits: u32, n: u32, start: u32) -> Option<u32>
     requires some_bit { 1 ≤ n }
-    requires few_bits { n ≤ 32 }
-    requires start { start < 32 }
+    requires few_bits { n ≤ zone_pages }
+    requires start { start < zone_pages }
     ensures value { result ≡ fit_of (has_bit bits) n start }
-    ensures within { IfSome result (λ p. p + n ≤ 32) }
+    ensures within { IfSome result (λ p. p + n ≤ zone_pages) }
     ensures clear { IfSome result (λ p.
         (i : ℕ) → p ≤ i → i < p + n → has_bit bits i ≡ false) }
 {
@@ -18,8 +21,8 @@ pub fn fit(bits: u32, n: u32, start: u32) -> Option<u32>
 /// The bits with those from `first` on set, `n` of them.
 pub fn set_run(bits: u32, first: u32, n: u32) -> u32
     requires some_bit { 1 ≤ n }
-    requires within { first + n ≤ 32 }
-    ensures bits { (i : ℕ) → i < 32 →
+    requires within { first + n ≤ zone_pages }
+    ensures bits { (i : ℕ) → i < zone_pages →
         has_bit result i ≡ (has_bit bits i || is_in_run first n i) }
 {
     bits | run_mask(first, n)
@@ -28,8 +31,8 @@ pub fn set_run(bits: u32, first: u32, n: u32) -> u32
 /// The bits with those from `first` on cleared, `n` of them.
 pub fn clear_run(bits: u32, first: u32, n: u32) -> u32
     requires some_bit { 1 ≤ n }
-    requires within { first + n ≤ 32 }
-    ensures bits { (i : ℕ) → i < 32
+    requires within { first + n ≤ zone_pages }
+    ensures bits { (i : ℕ) → i < zone_pages
         → has_bit result i ≡ (has_bit bits i && not (is_in_run first n i)) }
 {
     bits & !run_mask(first, n)
@@ -37,20 +40,20 @@ pub fn clear_run(bits: u32, first: u32, n: u32) -> u32
 
 // The search alone, since `fit` says more of what it finds.
 fn first_clear_run(bits: u32, n: u32, start: u32) -> Option<u32>
-    requires few_bits { n ≤ 32 }
-    requires start { start < 32 }
+    requires few_bits { n ≤ zone_pages }
+    requires start { start < zone_pages }
     ensures { result ≡ fit_of (has_bit bits) n start }
 {
-    (start..32)
+    (start..ZONE_PAGES)
         .chain(0..start)
         .find(|first| is_clear(bits, n, *first))
 }
 
 fn is_clear(bits: u32, n: u32, first: u32) -> bool
-    requires { n ≤ 32 }
+    requires { n ≤ zone_pages }
     ensures { result ≡ is_clear_run (has_bit bits) n first }
 {
-    if first > 32 - n {
+    if first > ZONE_PAGES - n {
         return false;
     }
     bits & run_mask(first, n) == 0
@@ -58,7 +61,7 @@ fn is_clear(bits: u32, n: u32, first: u32) -> bool
 
 /// The number whose set bits are those of the run.
 fn run_mask(first: u32, n: u32) -> u32
-    requires { first + n ≤ 32 }
+    requires { first + n ≤ zone_pages }
     ensures { result ≡ 2 ^ (first + n) - 2 ^ first }
 {
     let above = 1u64 << (first + n);

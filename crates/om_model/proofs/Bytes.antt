@@ -13,7 +13,8 @@ use Rattle.om_frame.specs.MemoryLaws.{length-with_bytes, length-page-with_bytes}
 use Rattle.om_geom.specs.declared.address.Extent.{Extent}
 use Rattle.om_geom.specs.Numbers.{page_size, zone_pages}
 use Rattle.om_geom.specs.Classes.{data_pages}
-use Rattle.om_model.specs.Pool.Junk.{fresh_byte, freed_byte, freed_len, data_extent, extent_of_place, with_fresh_junk, with_freed_place, with_freed_pages}
+use Rattle.om_delay.specs.Changes.{freed_byte}
+use Rattle.om_model.specs.Pool.Junk.{fresh_byte, freed_len, data_extent, extent_of_place, with_fresh_junk, with_freed_place, with_freed_pages}
 use Rattle.om_model.specs.Pool.Canaries.{canaries, with_canaries}
 use Rattle.om_model.specs.Pool.Rules.{Rules, canary_byte}
 use Rattle.om_model.specs.Pool.Runs.{Run, is_page_of}

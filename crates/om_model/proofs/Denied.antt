@@ -1,17 +1,17 @@
 -- A null and a fault release nothing, and change nothing but the words drawn.
 use Rattle.std.proofs.Common.{◌≡◌, ℕ, ◌+◌, Bool, true, false, Option, Some, None, if◌then◌else◌, refl, ap, arith}
 use Rattle.om_model.specs.Pool.Access.{barred, load_unless, load, store_unless, store}
-use Rattle.om_model.specs.Pool.Canaries.{broken_canary}
-use Rattle.om_model.specs.Pool.Free.{delay, delay_unless, freed_again, free_at, free}
+use Rattle.om_model.specs.Pool.Free.{delay, delay_unless, misuse, freed_again, free_at, free}
 use Rattle.om_model.specs.Pool.Malloc.{words_for, is_too_large, page_for, placed_where, placing, block_placed, malloc}
 use Rattle.om_model.specs.Pool.Rules.{Rules, word_at}
 use Rattle.om_model.specs.Pool.Standing.{Standing, NotHeld, FreePage, PageBlock, InPageBlock, OnGuard, LivePlace, DelayedPlace, FreePlace, Unaligned, standing}
 use Rattle.om_model.specs.Pool.State.{State, drawn_more}
 use Rattle.om_model.specs.Pool.Steps.{KeepsWhereDenied, unchanged, null_or_fault}
 use Rattle.om_model.specs.declared.entry.Move.{Move}
+use Rattle.om_model.specs.declared.reply.Fault.{Fault}
 use Rattle.om_model.specs.declared.reply.Fault.TheVariants.{AlreadyFree, Bogus, ModifiedPointer}
 use Rattle.om_model.specs.declared.reply.Reply.{Reply}
-use Rattle.om_model.specs.declared.reply.Reply.TheVariants.{Fault}
+use Rattle.om_model.specs.declared.reply.Reply.TheVariants as reply
 use Rattle.om_model.specs.declared.reply.Why.TheVariants.{TooLarge}
 
 unchanged-keeps : (state : State) (answer : Reply) → KeepsWhereDenied state (unchanged state answer)
@@ -33,18 +33,18 @@ malloc-keeps rules state size site claim = large (is_too_large rules size)
 at-keeps : (rules : Rules) (state : State) (address : ℕ) (stands : Standing) → KeepsWhereDenied state (free_at rules state address stands)
 unfolding delay freed_again
 at-keeps rules state address NotHeld denied = cc
-at-keeps rules state address FreePage denied = unchanged-keeps state (Fault Bogus) denied
+at-keeps rules state address FreePage denied = unchanged-keeps state (reply.Fault Bogus) denied
 at-keeps rules state address (PageBlock block) denied = cc
-at-keeps rules state address InPageBlock denied = unchanged-keeps state (Fault Bogus) denied
-at-keeps rules state address OnGuard denied = unchanged-keeps state (Fault Bogus) denied
-at-keeps rules state address (LivePlace place block) denied = by (broken_canary rules state block) denied
+at-keeps rules state address InPageBlock denied = unchanged-keeps state (reply.Fault Bogus) denied
+at-keeps rules state address OnGuard denied = unchanged-keeps state (reply.Fault Bogus) denied
+at-keeps rules state address (LivePlace place block) denied = by (misuse rules state block) denied
   where
-    by : (broken : Option ℕ) → KeepsWhereDenied state (delay_unless broken rules state place)
-    by (Some offset) = λ told. (refl, refl)
+    by : (found : Option Fault) → KeepsWhereDenied state (delay_unless found rules state place)
+    by (Some fault) = λ told. (refl, refl)
     by None = λ also. cc
 at-keeps rules state address (DelayedPlace place) denied = (refl, refl)
-at-keeps rules state address FreePlace denied = unchanged-keeps state (Fault AlreadyFree) denied
-at-keeps rules state address Unaligned denied = unchanged-keeps state (Fault ModifiedPointer) denied
+at-keeps rules state address FreePlace denied = unchanged-keeps state (reply.Fault AlreadyFree) denied
+at-keeps rules state address Unaligned denied = unchanged-keeps state (reply.Fault ModifiedPointer) denied
 
 pub free-keeps : (rules : Rules) (state : State) (address : ℕ) → KeepsWhereDenied state (free rules state address)
 free-keeps rules state address = at-keeps rules state address (standing rules state address)

@@ -17,11 +17,11 @@ use Rattle.om_model.specs.Pool.State.{State, delayed, drawn_more, holds, without
 use Rattle.om_model.specs.Pool.InUse.{Kind, Chunk, Pages, Guard, Use, use_of_place, data_of, guard_of, uses_by_class, uses_of_block, uses, touches, is_free_page, page_kind}
 use Rattle.om_model.specs.Pool.Picks.{starts_place}
 use Rattle.om_model.specs.Pool.Standing.{PageBlock, Unaligned, NotHeld, block_at, delayed_at, in_pages, at_place, on_page}
-use Rattle.om_model.specs.Pool.Canaries.{broken_canary}
-use Rattle.om_model.specs.Pool.Free.{is_surplus, kept_or_let_go, evicted, without_block, drawn_slot, slot_of, into_slot, put_off, delay, delay_unless, freed_again, free_at, free}
+use Rattle.om_model.specs.Pool.Free.{is_surplus, kept_or_let_go, evicted, without_block, drawn_slot, slot_of, into_slot, put_off, delay, delay_unless, misuse, freed_again, free_at, free}
 use Rattle.om_model.specs.Pool.WellFormed.{EachPair, AreAlike, AreApart, AgreeOnPages, FitsZone}
 use Rattle.om_model.specs.declared.block.Block.{Block}
 use Rattle.om_model.specs.declared.block.Place.{Place}
+use Rattle.om_model.specs.declared.reply.Fault.{Fault}
 use Rattle.om_model.proofs.Each.{Across, all-weaker, all-both, all-each, all-append, all-first, all-second, all-filter, all-find, pairs-all, pairs-weaker, pairs-second, pairs-first, pairs-across, pairs-append, pairs-filter}
 use Rattle.om_model.proofs.Flat.{all-flat, all-flat_filter, pairs-flat_filter, across-left}
 use Rattle.om_model.proofs.Bytes.{gone-pages, gone-bytes, freed-sound, freed_pages-sound}
@@ -337,15 +337,15 @@ module _ (rules : Rules) (state : State) (is : IsSound rules state) where
     unfolding freed_again
     again-sound = drawn_more-sound rules 1 state is
 
-    unless-sound : (class : ℕ) (block : Block) (broken : Option ℕ) → page_kind (uses rules state) (page_at address) ≡ Some (Chunk class) → block_at state address ≡ Some block
-        → IsSound rules ((delay_unless broken rules state (record { address = address; class = class })).next)
-    unless-sound class block (Some offset) found live_is = drawn_more-sound rules 1 state is
+    unless-sound : (class : ℕ) (block : Block) (found : Option Fault) → page_kind (uses rules state) (page_at address) ≡ Some (Chunk class) → block_at state address ≡ Some block
+        → IsSound rules ((delay_unless found rules state (record { address = address; class = class })).next)
+    unless-sound class block (Some fault) found live_is = drawn_more-sound rules 1 state is
     unless-sound class block None found live_is = delay-sound address block live_is class found
 
     place-sound : (class : ℕ) (live : Option Block) (put : Option Place) → page_kind (uses rules state) (page_at address) ≡ Some (Chunk class) → block_at state address ≡ live
         → IsSound rules ((free_at rules state address (at_place class address live put)).next)
     place-sound class live (Some place) found live_is = again-sound
-    place-sound class (Some block) None found live_is = unless-sound class block (broken_canary rules state block) found live_is
+    place-sound class (Some block) None found live_is = unless-sound class block (misuse rules state block) found live_is
     place-sound class None None found live_is = is
 
     start-sound : (class : ℕ) (starts : Bool) → page_kind (uses rules state) (page_at address) ≡ Some (Chunk class)

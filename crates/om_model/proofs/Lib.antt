@@ -7,6 +7,7 @@ pub mod Held
 pub mod HexDigits
 pub mod Journals
 pub mod Kept
+pub mod LateWrites
 pub mod Lawful
 pub mod Lists
 pub mod Malloc
@@ -19,6 +20,7 @@ pub mod PlainJournals
 pub mod PlainMemory
 pub mod PlainText
 pub mod PlainValues
+pub mod SecondFree
 pub mod Sound
 pub mod Steps
 pub mod Titles

@@ -1,11 +1,7 @@
--- Lists, item by item: the items so far and one more, items with their numbers, and the first that passes.
-use Rattle.std.proofs.Common.{◌≡◌, ℕ, zero, suc, ◌+◌, ◌<◌, ◌≤◌, Bool, true, false, cond, nat_lt, Some, None, List, [], ◌∷◌, ◌++◌, length, take, get_or, refl, sym, ◌∙◌, ap, arith, zero-add}
-use Rattle.std.specs.List.{flat_map, slice_get, enumerate_from, position, position_or_len}
+-- Lists, item by item: the items so far and one more, and items with their numbers.
+use Rattle.std.proofs.Common.{◌≡◌, ℕ, zero, suc, ◌+◌, ◌≤◌, Some, List, [], ◌∷◌, ◌++◌, length, take, sym, ◌∙◌, ap, arith, zero-add}
+use Rattle.std.specs.List.{flat_map, slice_get, enumerate_from}
 use Rattle.std.specs.Option.{option_map}
-use Rattle.std.proofs.lemmas.Bool.{lt-ltb}
-use Rattle.std.proofs.lemmas.Bool.Decides.{nat_tests}
-use Rattle.std.proofs.lemmas.Option.{slice_get_within, slice_get-get_or, get_or_from_slice_get}
-use Rattle.std.proofs.lemmas.List.Sums.{position_or_len_is}
 use Rattle.std.proofs.lemmas.List.FromFn.{length-enumerate_from}
 use Rattle.std.proofs.lemmas.List.{flat_map_more, take_all}
 
@@ -37,28 +33,3 @@ slice_get-enumerate_from n (y ∷ ys) (suc i) x at =
 
 pub take_enumerated : {X : Type 0} (n : ℕ) (xs : List X) (i : ℕ) → length xs ≤ i → take i (enumerate_from n xs) ≡ enumerate_from n xs
 take_enumerated n xs i within = take_all i (enumerate_from n xs) (omega (arith, length-enumerate_from n xs))
-
--- ---- the first item that passes
-
-fails_below : {X : Type 0} (p : X → Bool) (xs : List X) (i : ℕ) (d : X) → i ≤ length xs →
-    ((k : ℕ) (y : X) → k < i → slice_get xs k ≡ Some y → p y ≡ false) → (k : ℕ) → k < i → p (get_or xs k d) ≡ false
-fails_below p xs i d within fails k below = fails k (get_or xs k d) below (slice_get-get_or xs k d (omega arith))
-
-pub position_at : {X : Type 0} (p : X → Bool) (xs : List X) (i : ℕ) (x : X) →
-    ((k : ℕ) (y : X) → k < i → slice_get xs k ≡ Some y → p y ≡ false) → slice_get xs i ≡ Some x → p x ≡ true → Some i ≡ position p xs
-position_at p xs i x fails at passes =
-    let within = slice_get_within xs i x at in
-    let here : i < length xs → p (get_or xs i x) ≡ true = λ h. ap p (get_or_from_slice_get xs i x x at) ∙ passes in
-    let first : position_or_len p xs ≡ i = position_or_len_is p xs i x (omega arith) (fails_below p xs i x (omega arith) fails) here in
-    sym (rw (first, lt-ltb i (length xs) within) refl)
-
-pub position_none : {X : Type 0} (p : X → Bool) (xs : List X) →
-    ((k : ℕ) (y : X) → k < length xs → slice_get xs k ≡ Some y → p y ≡ false) → None ≡ position p xs
-position_none p [] fails = refl
-position_none p (x ∷ xs) fails =
-    let first : position_or_len p (x ∷ xs) ≡ length (x ∷ xs) =
-    position_or_len_is p (x ∷ xs) (length (x ∷ xs)) x (omega arith) (fails_below p (x ∷ xs) (length (x ∷ xs)) x (omega arith) fails) (λ h. absurd (omega arith)) in
-    sym (ap (λ n. cond (nat_lt n (length (x ∷ xs))) (Some n) None) first ∙ ap (λ t. cond t (Some (length (x ∷ xs))) None) (ltb_irrefl (length (x ∷ xs))))
-  where
-    ltb_irrefl : (n : ℕ) → nat_lt n n ≡ false
-    ltb_irrefl n = grind (arith, nat_tests)

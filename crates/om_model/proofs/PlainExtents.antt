@@ -4,6 +4,7 @@ use Rattle.std.specs.List.{AllByRecursion, list_all}
 use Rattle.std.proofs.lemmas.Bool.{ltb-true, cases_lt}
 use Rattle.std.proofs.lemmas.List.{get_or_past}
 use mathlib.Core.Logic.{⊎_elim}
+use Rattle.om_delay.specs.Slots.{slot_count}
 use Rattle.om_model.proofs.Held.{held-below}
 use Rattle.om_geom.specs.Addresses.{Covers, SharesByte, shares_byte, address_of, page_at}
 use Rattle.om_geom.specs.Classes.{is_class}
@@ -12,7 +13,7 @@ use Rattle.om_geom.specs.AddressLaws.{SharesByte-true, shares_byte-from}
 use Rattle.om_geom.specs.declared.address.Extent.{Extent}
 use Rattle.om_model.specs.Pool.InUse.{Use, uses, touches}
 use Rattle.om_model.specs.Pool.Rules.{Rules}
-use Rattle.om_model.specs.Pool.State.{State, slot_count, delayed, holds, is_held}
+use Rattle.om_model.specs.Pool.State.{State, delayed, holds, is_held}
 use Rattle.om_model.specs.Pool.WellFormed.{EachPair, AreAlike, AreApart, AgreeOnPages, BeginsRight, FitsZone, HasBytes, LiesOn, IsWellFormed}
 
 pub apart-decided : (a b : Extent) (shares : Bool) → shares ≡ shares_byte a b → IsTrue (not shares) ↔ (SharesByte a b → ⊥)

@@ -1,6 +1,6 @@
 -- A journal followed call by call: a call is lawful where the zones may answer so and the entry agrees with the
 -- step, and a journal where each entry is.
-use Rattle.std.proofs.Common.{◌≡◌, ℕ, zero, suc, ◌+◌, ◌≤◌, List, [], ◌∷◌, take, drop, length, Option, Some, None, IsSomeAnd, refl, sym, ap, subst, arith}
+use Rattle.std.proofs.Common.{◌≡◌, ℕ, zero, suc, ◌≤◌, List, [], ◌∷◌, take, length, Option, Some, None, IsSomeAnd, refl, sym, subst, arith}
 use Rattle.std.specs.List.{slice_get}
 use Rattle.om_model.specs.Data.CallEntry.{CallEntry}
 use Rattle.om_model.specs.Pool.Rules.{Rules}
@@ -61,16 +61,3 @@ pub lawful-at : (rules : Rules) (state : State) (entries : List Entry) (i : ℕ)
 lawful-at rules state [] i entry at is = cc
 lawful-at rules state (x ∷ xs) zero entry at is = let same : x ≡ entry = cc in subst (IsLawfulEntry rules state) same is.0
 lawful-at rules state (x ∷ xs) (suc i) entry at is = lawful-at rules (after rules state x) xs i entry at is.1
-
-pub drop-at : {X : Type 0} (xs : List X) (i : ℕ) (x : X) → slice_get xs i ≡ Some x → drop i xs ≡ x ∷ drop (i + 1) xs
-drop-at [] i x found = cc
-drop-at (y ∷ ys) zero x found = let same : y ≡ x = cc in ap (λ z. z ∷ ys) same
-drop-at (y ∷ ys) (suc i) x found =
-    let next : suc i + 1 ≡ suc (i + 1) = omega arith in
-    rw next (drop-at ys i x found)
-
-pub drop-all : {X : Type 0} (xs : List X) (i : ℕ) → length xs ≤ i → drop i xs ≡ []
-drop-all [] zero le = refl
-drop-all [] (suc i) le = refl
-drop-all (x ∷ xs) zero le = absurd (omega arith)
-drop-all (x ∷ xs) (suc i) le = drop-all xs i (omega arith)

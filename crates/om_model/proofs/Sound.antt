@@ -5,13 +5,14 @@ use Rattle.std.specs.List.{flat_map, AllByRecursion}
 use Rattle.std.proofs.lemmas.Bool.{cases_lt, cases_eq, and_from, le-leb, lt-ltb}
 use Rattle.std.proofs.Math.Nat.{add-sub_cancel_left, mul-le-mul_right, mul-mod_left, mul-div_cancel}
 use mathlib.Core.Logic.{⊎_elim}
+use Rattle.om_delay.specs.Slots.{slot_count}
 use Rattle.om_geom.specs.Addresses.{Covers, address_of, page_at, page_extent}
 use Rattle.om_geom.specs.AddressLaws.{page_at-byte, apart-before, apart-after, shares_byte-page, shares_byte-from, SharesByte-swap, SharesByte-true}
 use Rattle.om_geom.specs.Classes.{is_class, stride_of, places_of}
 use Rattle.om_geom.specs.ClassLaws.{place-within, stride-at_least_16}
 use Rattle.om_geom.specs.Numbers.{first_address, page_size, zone_pages}
 use Rattle.om_model.specs.Pool.Rules.{Rules}
-use Rattle.om_model.specs.Pool.State.{State, slot_count, delayed, is_held}
+use Rattle.om_model.specs.Pool.State.{State, delayed, is_held}
 use Rattle.om_model.specs.Pool.InUse.{Kind, Chunk, Pages, Guard, Use, use_of_place, uses_of_block, uses, touches}
 use Rattle.om_model.specs.Pool.Picks.{place_address, starts_place}
 use Rattle.om_model.specs.Pool.WellFormed.{EachPair, BeginsRight, AreAlike, AreApart, AgreeOnPages, FitsZone, HasBytes, LiesOn, IsWellFormed}

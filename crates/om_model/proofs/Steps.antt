@@ -9,13 +9,13 @@ use Rattle.om_model.specs.Pool.InUse.{uses, is_free_page}
 use Rattle.om_model.specs.Pool.Steps.{Answers, Step, unchanged, null_or_fault}
 use Rattle.om_model.specs.Pool.Malloc.{words_by_class, words_for, is_too_large, page_for, with_block, address_on, placed_on, placed_where, placing, block_placed, malloc}
 use Rattle.om_model.specs.Pool.Standing.{Standing, NotHeld, FreePage, PageBlock, InPageBlock, OnGuard, LivePlace, DelayedPlace, FreePlace, Unaligned, standing}
-use Rattle.om_model.specs.Pool.Free.{Freed, is_surplus, kept_or_let_go, evicted, without_block, drawn_slot, slot_of, into_slot, put_off, delay, delay_unless, freed_again, free_at, free}
+use Rattle.om_model.specs.Pool.Free.{Freed, is_surplus, kept_or_let_go, evicted, without_block, drawn_slot, slot_of, into_slot, put_off, delay, delay_unless, misuse, freed_again, free_at, free}
 use Rattle.om_model.specs.Pool.Access.{barred, load_unless, store_unless}
-use Rattle.om_model.specs.Pool.Canaries.{broken_canary}
 use Rattle.om_model.specs.Pool.Junk.{with_fresh_junk, with_freed_pages}
 use Rattle.om_model.specs.Pool.Journal.{step_of, answers_of, next_of, after, state_from, state_of}
 use Rattle.om_model.specs.declared.block.Block.{Block}
 use Rattle.om_model.specs.declared.block.Place.{Place}
+use Rattle.om_model.specs.declared.reply.Fault.{Fault}
 use Rattle.om_model.specs.declared.entry.Entry.{Entry}
 use Rattle.om_model.specs.declared.entry.Entry.TheVariants.{Call, Phase}
 use Rattle.om_model.specs.declared.entry.Move.{Move}
@@ -80,8 +80,8 @@ again-draws rules state address = record { few = omega arith; next = refl }
 none-draws : (state : State) (step : Step) → step.words ≡ 0 → (step.next).drawn ≡ state.drawn → DrawsFew state.drawn step
 none-draws state step none next = record { few = omega arith; next = omega arith }
 
-unless-draws : (rules : Rules) (state : State) (place : Place) (broken : Option ℕ) → DrawsFew state.drawn (delay_unless broken rules state place)
-unless-draws rules state place (Some offset) = record { few = omega arith; next = refl }
+unless-draws : (rules : Rules) (state : State) (place : Place) (found : Option Fault) → DrawsFew state.drawn (delay_unless found rules state place)
+unless-draws rules state place (Some fault) = record { few = omega arith; next = refl }
 unless-draws rules state place None = delay-draws rules state place
 
 at-draws : (rules : Rules) (state : State) (address : ℕ) (stands : Standing) → DrawsFew state.drawn (free_at rules state address stands)
@@ -92,7 +92,7 @@ at-draws rules state address (PageBlock block) =
     none-draws state _ refl (let_go-drawn rules (with_freed_pages rules block left) (record { first = page_at block.address; count = block_pages rules block.size }) ∙ freed_pages-drawn rules block left)
 at-draws rules state address InPageBlock = none-draws state _ refl refl
 at-draws rules state address OnGuard = none-draws state _ refl refl
-at-draws rules state address (LivePlace place block) = unless-draws rules state place (broken_canary rules state block)
+at-draws rules state address (LivePlace place block) = unless-draws rules state place (misuse rules state block)
 at-draws rules state address (DelayedPlace place) = again-draws rules state address
 at-draws rules state address FreePlace = none-draws state _ refl refl
 at-draws rules state address Unaligned = none-draws state _ refl refl

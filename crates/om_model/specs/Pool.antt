@@ -9,6 +9,8 @@ pub mod Steps
 pub mod Malloc
 pub mod Standing
 pub mod Access
+pub mod WriteAfterFree
 pub mod Free
 pub mod Journal
+pub mod SecondFree
 pub mod WellFormed

@@ -1,6 +1,3 @@
-/// How many slots a pool has, each for a delayed place.
-pub const SLOT_COUNT: usize = 16;
-
 /// A live block: what was handed out and hasn't come back. The size is the one that was asked.
 #[derive(Clone, Copy, Debug, PartialEq, Eq)]
 pub struct Block {

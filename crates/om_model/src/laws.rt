@@ -1,4 +1,4 @@
-ghost use Rattle.std.specs.Prelude.{ℕ, List, ◌++◌};
+ghost use Rattle.std.specs.Prelude.{ℕ, ◌≡◌, true, List, ◌++◌};
 ghost use Rattle.om_model.specs.Pool.Rules.{Rules};
 ghost use Rattle.om_model.specs.Pool.State.{State};
 ghost use Rattle.om_model.specs.Pool.Steps.{Answers};
@@ -6,6 +6,7 @@ ghost use Rattle.om_model.specs.Pool.Malloc.{malloc_wish, malloc};
 ghost use Rattle.om_model.specs.Pool.Free.{free};
 ghost use Rattle.om_model.specs.Pool.Access.{store};
 ghost use Rattle.om_model.specs.Pool.Journal.{MayAnswer, IsLawful, state_of};
+ghost use Rattle.om_model.specs.Pool.SecondFree.{AreFreedOnce};
 ghost use Rattle.om_model.specs.Pool.WellFormed.{IsWellFormed};
 
 use crate::entry::Entry;
@@ -29,4 +30,11 @@ pub fn steps_keep_well_formed()
     ensures store { (rules : Rules) (state : State) (address byte : ℕ)
         → IsWellFormed rules state
         → IsWellFormed rules ((store rules state address byte).next) }
+{}
+
+/// A law of the definitions alone: in the journal of a pool under freecheck, where an address was freed twice
+/// and both frees were done, a block was given there between them. So no second free of a block is done.
+pub fn blocks_are_freed_once()
+    ensures { (rules : Rules) (entries : List Entry) → rules.options.freecheck ≡ true
+        → IsLawful rules entries → AreFreedOnce entries }
 {}

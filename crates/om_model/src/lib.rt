@@ -17,13 +17,13 @@ pub mod slow;
 pub mod text;
 mod transcript;
 
-pub use block::{Block, Place, SLOT_COUNT};
+pub use block::{Block, Place};
 pub use board::{Board, BoardEntry, CELL_COUNT};
 pub use content::{Head, Told};
 pub use drawn::Drawn;
 pub use entry::{Asked, CallEntry, Entry, Move, ZoneMove};
 pub use journal::Journal;
-pub use laws::{blocks_are_apart, steps_keep_well_formed};
+pub use laws::{blocks_are_apart, blocks_are_freed_once, steps_keep_well_formed};
 pub use looks::{Look, LookList, Named};
 pub use operation::{Call, Op, Who};
 pub use reply::{Fault, Outcome, Reply, Segv, Why};

@@ -19,6 +19,7 @@ mod state;
 mod steps;
 mod text;
 mod well_formed;
+mod write_after_free;
 
 pub use access::{PageState, barred};
 pub use calls::{Answered, are_calls, calls_read, only_callers};

@@ -1,5 +1,6 @@
-ghost use Rattle.std.specs.Prelude.{◌≡◌, ◌+◌, ◌≤◌, ◌^◌, length};
+ghost use Rattle.std.specs.Prelude.{◌≡◌, ◌+◌, ◌*◌, ◌≤◌, ◌^◌, length};
 ghost use Rattle.std.specs.List.{list_all, range_with_len};
+ghost use Rattle.om_geom.specs.Numbers.{zone_pages, most_zones};
 ghost use Rattle.om_pages.specs.FreeRuns.{is_free_run, lowest_run};
 ghost use Rattle.om_pages.specs.Kinds.{is_free};
 ghost use Rattle.om_pages.specs.Tables.{kind_of};
@@ -19,7 +20,7 @@ pub(crate) fn kind_of(kinds: &[PageKind], page: usize) -> PageKind
 
 /// The first page of the lowest run of `n` free pages; none where there is no such run.
 pub(crate) fn lowest_run(kinds: &[PageKind], n: u32) -> Option<u32>
-    requires { length kinds.now ≤ 2048 }
+    requires { length kinds.now ≤ zone_pages * most_zones }
     ensures { result ≡ lowest_run kinds.now n }
 {
     (0..kinds.len() as u32).find(|first| is_free_run(kinds, n, *first))

@@ -24,7 +24,8 @@ pub struct PageTable {
 }
 
 impl Model for PageTable {
-    ghost use Rattle.std.specs.Prelude.{◌≡◌, ◌≤◌, List, length};
+    ghost use Rattle.std.specs.Prelude.{◌≡◌, ◌*◌, ◌≤◌, List, length};
+    ghost use Rattle.om_geom.specs.Numbers.{zone_pages, most_zones};
     ghost use Rattle.om_pages.specs.declared.kind.PageKind.{PageKind};
     ghost use Rattle.om_pages.specs.Tables.{free_count};
 
@@ -32,7 +33,7 @@ impl Model for PageTable {
 
     ghost view = { λ t. t.kinds.items };
 
-    ghost invariant = { λ t. (length t.kinds.items ≤ 2048)
+    ghost invariant = { λ t. (length t.kinds.items ≤ zone_pages * most_zones)
         × (t.free ≡ free_count t.kinds.items) };
 }
 

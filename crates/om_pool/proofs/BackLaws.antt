@@ -1,21 +1,19 @@
 -- A call more: what its entry names comes after all that was named, and the broker goes on with the pool.
-use Rattle.std.proofs.Common.{◌≡◌, ℕ, zero, suc, ◌+◌, ◌/◌, ◌%◌, ◌<◌, ◌≤◌, true, nat_le, nat_lt, List, [], ◌∷◌, ◌++◌, length, map, get_or, Option, Some, None, IsSomeAnd, refl, sym, subst, ◌∙◌, ap, arith, append-nil}
+use Rattle.std.proofs.Common.{◌≡◌, ℕ, zero, suc, ◌+◌, ◌/◌, ◌%◌, ◌<◌, ◌≤◌, true, List, [], ◌∷◌, ◌++◌, length, map, get_or, Option, Some, None, IsSomeAnd, sym, subst, ◌∙◌, ap, arith, append-nil}
 use Rattle.std.specs.Prelude.{Contains}
 use Rattle.std.specs.List.{AllByRecursion, flat_map, range_with_len}
 use Rattle.std.proofs.Math.Nat.{mod-add-div', mul-le-mul_right}
-use Rattle.std.proofs.lemmas.Bool.{true≢false, and_parts, leb-true, ltb-true, cases_lt}
+use Rattle.std.proofs.lemmas.Bool.{cases_lt}
 use Rattle.std.proofs.lemmas.List.Concat.{flat_map-append}
 use Rattle.std.proofs.lemmas.List.Elements.{Contains-append_left, Contains-append_right}
 use mathlib.Core.Logic.{⊎_elim}
-use Rattle.om_broker.specs.Claims.{ShowsMove}
-use Rattle.om_broker.specs.Sights.{Seen, Has, IsLeft, IsNewer, gives_back}
+use Rattle.om_broker.specs.Having.{IsSeenMove}
+use Rattle.om_broker.specs.Sights.{Seen, Has, IsLeft}
 use Rattle.om_broker.specs.declared.broker.Broker as broker
 use Rattle.om_geom.specs.BitLaws.{fit_of-same}
 use Rattle.om_geom.specs.Fit.{has_bit, searched_bit, searched_zone}
-use Rattle.om_geom.specs.Numbers.{zone_pages}
 use Rattle.om_model.specs.Data.CallEntry.{CallEntry}
 use Rattle.om_model.specs.Pool.Rules.{Rules}
-use Rattle.om_model.specs.Pool.Runs.{run_of, is_page_of}
 use Rattle.om_model.specs.Pool.State.{is_held}
 use Rattle.om_model.specs.Zones.Looks.{IsTrueLook, HasTrueLooks, named_in, ComesAfter, Rises, AreLooks}
 use Rattle.om_model.specs.Zones.Moves.{moves_of, moves_of_call, pages_sought, search_word}
@@ -26,7 +24,7 @@ use Rattle.om_model.specs.declared.looks.Look.{Look}
 use Rattle.om_model.specs.declared.looks.Named.{Named}
 use Rattle.om_model.proofs.Each.{all-append, all-weaker}
 use Rattle.om_model.proofs.Journals.{moves_of-push}
-use Rattle.om_pool.specs.Backing.{IsSeen, IsSeenName, IsSeenMove, IsFullIn, IsNext, ShowsEntry, HasFullLooks, IsBacked}
+use Rattle.om_pool.specs.Backing.{IsSeen, IsSeenName, IsFullIn, IsNext, ShowsEntry, HasFullLooks, IsBacked}
 
 -- what holds of each element holds of one that is there
 at-index : {X : Type 0} (P : X → Type 0) (xs : List X) (x : X) (k : ℕ) → k < length xs → get_or xs k x ≡ x → AllByRecursion P xs → P x
@@ -107,41 +105,6 @@ module _ (sight whole : List Seen) (wider : (item : Seen) → Contains sight ite
       (λ look. some-weaker _ _ (λ word. full-wider (pages_sought rules entry.op) word look) (search_word rules entry)) looks
   full-looks-wider rules (Phase number) looks = tt
 
--- what a move shows is seen then
-pub seen-here : (sight items : List Seen) (m : ZoneMove) → ShowsMove sight items m → IsSeen (sight ++ items) m.made.zone m.made.version
-seen-here sight items m shows = record { item = shows.item; among = Contains-append_right sight items shows.item shows.among; names = shows.names }
-
--- ---- pages that a broker has
-
--- the zone of a move's page
-zone-is : (m : ZoneMove) (page : ℕ) → m.made.first + m.made.count ≤ zone_pages → is_page_of (run_of m.made) page ≡ true → m.made.zone ≡ page / 32
-zone-is m page inside on =
-    let both = and_parts (nat_le (run_of m.made).first page) (nat_lt page ((run_of m.made).first + m.made.count)) on in
-    omega (arith, leb-true (run_of m.made).first page both.0, ltb-true page ((run_of m.made).first + m.made.count) both.1)
-
-module _ (moves : List ZoneMove) (m : ZoneMove) (page : ℕ) where
-  abbrev IsBefore : ZoneMove → ZoneMove → Type 0
-  IsBefore claim other = gives_back page other → other.made.version < claim.made.version
-
-  -- a claim takes it, since it is newer than all that was seen of its zone
-  pub has-claimed : (sight : List Seen) → AllByRecursion (IsSeenMove sight) moves → m.claims ≡ true → m.made.first + m.made.count ≤ zone_pages → IsNewer sight m.made.zone m.made.version
-      → is_page_of (run_of m.made) page ≡ true → Has (moves ++ m ∷ []) page
-  has-claimed sight seen claims inside newer on = record {
-    claim = m;
-    made = Contains-append_right moves (m ∷ []) m (0, omega arith, refl);
-    takes_it = (claims, on);
-    kept = all-append (IsBefore m) moves (m ∷ [])
-        (all-weaker (IsSeenMove sight) (IsBefore m) moves
-        (λ other was back.
-        let item = (was.seen).item in
-        let names = (was.seen).names in
-        let same : item.zone ≡ m.made.zone = names.zone_is ∙ zone-is other page was.inside back.1 ∙ sym (zone-is m page inside on) in
-        let below : item.version < m.made.version = contained (λ (i : Seen). i.zone ≡ m.made.zone → i.version < m.made.version) sight item (was.seen).among newer same in
-        omega (arith, names.version_is))
-        seen)
-        ((λ back. absurd (true≢false (sym claims ∙ back.0))), tt);
-  }
-
 -- ---- a call more
 
 module _ {B A : Type 0} (g : broker.Ghosts B A) (rules : Rules) (held : List ℕ) (entries : List Entry) (old new : B) (entry : CallEntry) (is : IsBacked g rules held entries old) where
@@ -162,7 +125,7 @@ module _ {B A : Type 0} (g : broker.Ghosts B A) (rules : Rules) (held : List ℕ
     pub made : g.made new (moves ++ moves_of_call rules 0 entry) (is.sight ++ items)
     pub shows : ShowsEntry rules entry moves is.sight items
     pub has : (page : ℕ) → is_held after page ≡ true → Has (moves ++ more) page
-    pub seen_moves : AllByRecursion (IsSeenMove (is.sight ++ items)) more
+    pub seen_moves : AllByRecursion (IsSeenMove (is.sight ++ items)) (moves ++ more)
     pub rises : Rises (named_in (Call entry))
 
   pub backed-push : (after : List ℕ) (more : List ZoneMove) → IsMore after more → IsBacked g rules after longer new
@@ -177,13 +140,12 @@ module _ {B A : Type 0} (g : broker.Ghosts B A) (rules : Rules) (held : List ℕ
       let told : flat_map named_in longer ≡ so_far ++ names = flat_map-append named_in entries (Call entry ∷ []) ∙ ap (λ all. so_far ++ all) (append-nil names) in
       let Made : List ZoneMove → Type 0 = λ ms. g.made new ms whole in
       let HasAll : List ZoneMove → Type 0 = λ ms. (page : ℕ) → is_held after page ≡ true → Has ms page in
-      let wider : (m : ZoneMove) → IsSeenMove is.sight m → IsSeenMove whole m = λ m was. record { seen = seen-wider is.sight whole before m.made.zone m.made.version was.seen; inside = was.inside } in
       record {
         zones = ap g.zones adds.arena ∙ is.zones;
         sight = whole;
         made = subst Made (sym entered) adds.made;
         has = subst HasAll (sym moved) adds.has;
-        moves = subst (AllByRecursion (IsSeenMove whole)) (sym moved) (all-append (IsSeenMove whole) moves more (all-weaker (IsSeenMove is.sight) (IsSeenMove whole) moves wider is.moves) adds.seen_moves);
+        moves = subst (AllByRecursion (IsSeenMove whole)) (sym moved) adds.seen_moves;
         named = subst (AllByRecursion (IsSeenName whole)) (sym told)
             (all-append (IsSeenName whole) so_far names
             (all-weaker (IsSeenName is.sight) (IsSeenName whole) so_far (λ named. seen-wider is.sight whole before named.zone named.version) is.named)

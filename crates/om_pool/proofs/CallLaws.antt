@@ -6,7 +6,8 @@ use Rattle.std.proofs.lemmas.Bool.{true≢false, and_parts, cases_Bool}
 use Rattle.std.proofs.lemmas.List.{length-map, map-append}
 use Rattle.std.proofs.lemmas.List.FromFn.{map-range_with_len_more}
 use mathlib.Core.Logic.{⊎_elim}
-use Rattle.om_broker.specs.Claims.{first_page, run_of_frames, ShowsMove, NamesSearched, AreZeros, HasFrames, IsGivenBack}
+use Rattle.om_broker.specs.Claims.{first_page, run_of_frames, ShowsMove, AreZeros, HasFrames, IsGivenBack}
+use Rattle.om_broker.specs.Having.{IsSeenMove}
 use Rattle.om_broker.specs.Sights.{Has, HasRun, claimed, released}
 use Rattle.om_broker.specs.declared.broker.Broker as broker
 use Rattle.om_broker.specs.declared.broker.Claim.{Claim}
@@ -17,6 +18,7 @@ use Rattle.om_geom.specs.Addresses.{bit_of, zone_of}
 use Rattle.om_geom.specs.Fit.{searched_zone}
 use Rattle.om_geom.specs.Numbers.{zone_pages}
 use Rattle.om_model.specs.Data.CallEntry.{CallEntry}
+use Rattle.om_model.specs.Pool.Journal.{NamesSearched}
 use Rattle.om_model.specs.Pool.Rules.{Rules}
 use Rattle.om_model.specs.Pool.Runs.{Run, run_of, is_page_of}
 use Rattle.om_model.specs.Pool.State.{is_held, with_run, without_run}
@@ -31,6 +33,7 @@ use Rattle.om_model.specs.declared.looks.Named.{Named}
 use Rattle.om_model.specs.declared.operation.Op.{Op}
 use Rattle.om_model.specs.declared.operation.Who.{Who}
 use Rattle.om_model.specs.declared.reply.Reply.{Reply}
+use Rattle.om_model.proofs.Each.{all-append}
 use Rattle.om_model.proofs.Held.{held-with_run, held-without_run}
 use Rattle.om_pool.specs.Asking.{claim_in, IsSearched, IsLeft, IsAsked}
 use Rattle.om_pool.specs.Backing.{IsBacked}
@@ -38,9 +41,9 @@ use Rattle.om_pool.specs.CoreKept.{core_state, IsBackedCore}
 use Rattle.om_pool.specs.HoldingsView.{rules_in}
 use Rattle.om_pool.specs.Unasked.{unasked_entry, IsQuiet}
 use Rattle.om_pool.specs.declared.pool_core.Core.{Core}
-use Rattle.om_pool.proofs.BackLaws.{backed-push, names-rise, seen-here, has-claimed}
+use Rattle.om_pool.proofs.BackLaws.{backed-push, names-rise}
 use Rattle.om_pool.proofs.EntryLaws.{adds-released, adds-searched, adds-still, moves-claimed, moves-refused, names-claimed, names-refused}
-use Rattle.om_broker.proofs.HasLaws.{has-still}
+use Rattle.om_broker.proofs.HasLaws.{has-claimed, has-still, seen-more, seen-push}
 
 -- the held pages after a search, or after none
 abbrev pub held_after : List ℕ → Bool → Option Claim → List ℕ
@@ -100,7 +103,7 @@ module _ {B A : Type 0} (g : broker.Ghosts B A) where
           made = adds.1;
           shows = adds.3;
           has = subst HasAll (sym (append-nil moves)) is.has;
-          seen_moves = tt;
+          seen_moves = all-append (IsSeenMove (is.sight ++ adds.0)) moves [] (seen-more is.sight adds.0 moves is.moves) tt;
           rises = rw (claim, release, taken, looks) tt;
         })
 
@@ -140,7 +143,7 @@ module _ {B A : Type 0} (g : broker.Ghosts B A) where
           made = adds.1;
           shows = adds.3;
           has = subst Stays (sym lets.left) (λ page here. let_go-stays left.0 page move (lets.given).run_is here);
-          seen_moves = (record { seen = seen-here is.sight adds.0 m adds.2.0; inside = (lets.given).inside }, tt);
+          seen_moves = seen-push is.sight adds.0 moves is.moves m (lets.given).inside adds.2.0;
           rises = (tt, tt);
         })
 
@@ -197,7 +200,7 @@ module _ {B A : Type 0} (g : broker.Ghosts B A) where
           made = adds.1;
           shows = adds.3;
           has = subst HasAll (sym (append-nil moves)) is.has;
-          seen_moves = tt;
+          seen_moves = all-append (IsSeenMove (is.sight ++ adds.0)) moves [] (seen-more is.sight adds.0 moves is.moves) tt;
           rises = subst Rises (sym (names-refused g rules old new entry n word release taken searched sought claim))
               (names-rise (g.zones (g.arena old)) word 0 names (zones-named search.names) (omega (arith, length-map entry.looks named_by_look)));
         })
@@ -232,9 +235,9 @@ module _ {B A : Type 0} (g : broker.Ghosts B A) where
               (λ (was : is_held held page ≡ true). has-still moves m page (λ back. absurd (true≢false back.0)) (is.has page was))
               (λ (was : is_held held page ≡ false).
               let on : is_page_of (run_of move) page ≡ true = sym (ap (λ b. b || is_page_of (run_of move) page) was) ∙ sym (held-with_run (run_of move) held page) ∙ here in
-              has-claimed moves m page is.sight is.moves refl inside shows.new on)
+              has-claimed moves m page is.sight is.moves shows.new inside (refl, on))
               (cases_Bool (is_held held page));
-          seen_moves = (record { seen = seen-here is.sight adds.0 m shows; inside = inside }, tt);
+          seen_moves = seen-push is.sight adds.0 moves is.moves m inside shows;
           rises = subst Rises (sym (names-claimed g rules old new entry n word release taken searched sought move claim)) (names-rise zones word 0 all zones_are (omega arith));
         })
 

@@ -1,6 +1,7 @@
 -- A page block leaves: its bytes are filled, and its pages become free with its guard. They are kept, or let go where they are surplus.
 use Rattle.std.proofs.Common.{◌≡◌, ℕ, ◌+◌, ◌*◌, ◌<◌, ◌≤◌, Bool, true, false, not, nat_le, Option, Some, if◌then◌else◌, refl, sym, ap, ◌∙◌, subst, arith}
 use Rattle.om_broker.specs.declared.broker.Broker as broker
+use Rattle.om_delay.specs.Changes.{freed_byte}
 use Rattle.om_frame.specs.Frames.{AreHeld}
 use Rattle.om_frame.specs.Memory as frames
 use Rattle.om_frame.specs.Memory.{IsHeldPart}
@@ -10,7 +11,7 @@ use Rattle.om_geom.specs.Numbers.{most_zones, page_size, zone_pages}
 use Rattle.om_geom.specs.declared.address.Extent.{Extent}
 use Rattle.om_geom.specs.declared.address.Page.{Page}
 use Rattle.om_model.specs.Pool.Free.{is_surplus, done_with, kept_or_let_go, without_block, without_page_block}
-use Rattle.om_model.specs.Pool.Junk.{freed_byte, freed_len, with_freed_pages}
+use Rattle.om_model.specs.Pool.Junk.{freed_len, with_freed_pages}
 use Rattle.om_model.specs.Pool.Rules.{Rules, block_pages}
 use Rattle.om_model.specs.Pool.Runs.{Run}
 use Rattle.om_model.specs.Pool.Standing.{PageBlock, block_at, standing}

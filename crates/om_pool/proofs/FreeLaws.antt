@@ -1,35 +1,45 @@
 -- What a free shows of the core: what it finds, and what becomes of a live place that is put off.
-use Rattle.std.proofs.Common.{◌≡◌, ℕ, ◌+◌, ◌++◌, [], ◌∷◌, ◌*◌, ◌<◌, ◌≤◌, Bool, true, false, not, ◌&&◌, ◌||◌, ◌==◌, nat_le, nat_lt, List, if◌then◌else◌, Option, Some, None, IfSome, is_some, slice_set, refl, sym, ap, ◌∙◌, subst, arith}
+use Rattle.std.proofs.Common.{◌≡◌, ℕ, ◌+◌, ◌++◌, [], ◌∷◌, ◌*◌, ◌<◌, ◌≤◌, Bool, true, false, not, ◌&&◌, ◌||◌, ◌==◌, nat_le, nat_lt, List, if◌then◌else◌, Option, Some, None, is_some, ◌%◌, refl, sym, ap, ◌∙◌, subst, arith}
 use Rattle.std.specs.List.{flat_map, AllByRecursion}
-use Rattle.std.specs.Option.{is_none}
+use Rattle.std.specs.Option.{is_none, option_map}
+use Rattle.std.specs.Prelude.{slice_index_or}
+use Rattle.std.proofs.lemmas.List.{get_or-map, length-map}
 use Rattle.std.proofs.lemmas.Bool.{and_from, and_parts, eqb-true}
 use Rattle.om_broker.specs.declared.broker.Broker as broker
 use Rattle.om_chunk.specs.Pages.{page_left, place_in, with_freed, with_place}
 use Rattle.om_chunk.specs.declared.place.Place.TheVariants as has
+use Rattle.om_delay.specs.Changes.{freed_byte, AreHeldSlots, IsHeldSlot}
+use Rattle.om_delay.specs.Slots.{begins_at, slot_at, slot_count, with_slot}
+use Rattle.om_delay.specs.declared.check.Changed.{Changed}
 use Rattle.om_frame.specs.Memory as frames
+use Rattle.om_frame.specs.Memory.{IsHeldPart}
 use Rattle.om_geom.specs.Addresses.{address_of, is_in_arena, page_at}
 use Rattle.om_geom.specs.FitLaws.{find-passes}
 use Rattle.om_geom.specs.Numbers.{first_address, most_zones, zone_pages}
-use Rattle.om_model.specs.Pool.Free.{Freed, is_surplus, kept_or_let_go, evicted, into_slot, put_off, slot_of, drawn_slot, delay, freed_again, slot_holds, free_at, free, done_with}
+use Rattle.om_geom.specs.declared.address.Extent.{Extent}
+use Rattle.om_model.specs.Pool.Canaries.{broken_canary}
+use Rattle.om_model.specs.Pool.Free.{Freed, is_surplus, kept_or_let_go, evicted, into_slot, put_off, slot_of, drawn_slot, delay, delay_unless, first_misuse, freed_again, misuse, told, free_at, free, done_with}
 use Rattle.om_model.specs.Pool.InUse.{Chunk, Use, use_of_place, uses_by_class, uses_of_block, uses, page_kind, is_free_page}
 use Rattle.om_model.specs.Pool.Journal.{GivesUp}
-use Rattle.om_model.specs.Pool.Junk.{extent_of_place, freed_byte, with_freed_place}
-use Rattle.om_model.specs.Pool.Rules.{Rules, size_class}
+use Rattle.om_model.specs.Pool.Junk.{extent_of_place, fills_freed, with_freed_place}
+use Rattle.om_model.specs.Pool.Rules.{Rules, size_class, word_at}
 use Rattle.om_model.specs.Pool.Standing.{Standing, LivePlace, block_at, standing}
 use Rattle.om_model.specs.Pool.Runs.{Run}
-use Rattle.om_model.specs.Pool.State.{State, slot_count, drawn_more, is_held, filled_with, without_pages, without_run}
+use Rattle.om_model.specs.Pool.State.{State, drawn_more, is_held, filled_with, without_pages, without_run}
 use Rattle.om_model.specs.Pool.Steps.{Step}
 use Rattle.om_model.specs.Pool.WellFormed.{LiesOn}
+use Rattle.om_model.specs.Pool.WriteAfterFree.{slot_extents, written_in, written_late}
 use Rattle.om_model.specs.declared.block.Block.{Block}
 use Rattle.om_model.specs.declared.block.Place.{Place}
 use Rattle.om_model.specs.declared.entry.Entry.TheVariants.{Call}
 use Rattle.om_model.specs.declared.entry.Move.{Move}
 use Rattle.om_model.specs.declared.operation.Op.TheVariants.{Free}
 use Rattle.om_model.specs.declared.operation.Who.{Who}
+use Rattle.om_model.specs.declared.reply.Reply.{Reply}
 use Rattle.om_model.specs.declared.reply.Reply.TheVariants as reply
 use Rattle.om_model.specs.declared.reply.Fault.TheVariants as fault
 use Rattle.om_model.proofs.Bytes.{freed-drawn, freed-sound}
-use Rattle.om_model.proofs.Each.{all-first}
+use Rattle.om_model.proofs.Each.{all-first, all-second}
 use Rattle.om_model.proofs.Free.{into_slot-sound, of-block, waiting}
 use Rattle.om_model.proofs.Sound.{IsSound, same_class, touches-first, well-formed}
 use Rattle.om_pages.specs.Kinds as kinds
@@ -46,16 +56,17 @@ use Rattle.om_pool.specs.Standing.{Means}
 use Rattle.om_pool.specs.ByTables.{standing_by}
 use Rattle.om_pool.specs.TableSteps.{delayed_place, filled_by, freed_filled, freed_place, gone_run, is_surplus_by, kept_or_gone, page_goes}
 use Rattle.om_pool.specs.Tables.{Tables, StandFor}
-use Rattle.om_pool.specs.Unasked.{no_answers, unasked_entry}
+use Rattle.om_pool.specs.Unasked.{no_answers, unasked_entry, IsQuiet}
 use Rattle.om_pool.specs.declared.holdings.Holdings.{Holdings}
 use Rattle.om_pool.specs.declared.pool_core.Core.{Core}
 use Rattle.om_pool.specs.declared.standing.Standing as code
 use Rattle.om_words.specs.DrawnWords.{WordSource}
 use Rattle.om_pool.proofs.CallLaws.{backed-let_go}
 use Rattle.om_pool.proofs.CoreLaws.{core-sound, kept, left_after, same-rules, taken}
+use Rattle.om_pool.proofs.SlotLaws.{begins-waiting, extent-at, if-waits, slot-has}
 use Rattle.om_pool.proofs.Spending.{uses-left}
 use Rattle.om_pool.proofs.TableAnswers.{HasPlace, live-place, means-by}
-use Rattle.om_pool.proofs.TablePages.{all-held, bytes-filled, free-counted, pages-go}
+use Rattle.om_pool.proofs.TablePages.{all-held, bytes-filled, free-counted, pages-go, words-drawn}
 use Rattle.om_pool.proofs.TableSlots.{IsKindOn, all-kind_on, gone-held, gone-low, gone-place, no-pages, put-off-gone, put-off-left, put-off-new}
 use Rattle.om_pool.proofs.TableTies.{shelf-holds}
 use Rattle.om_pool.proofs.UnaskedLaws.{IsUnasked, unasked-does}
@@ -75,7 +86,7 @@ module _ (core : Core) (address : ℕ) where
 
 module _ (rules : Rules) (place : Place) where
   abbrev byte_test : Bool
-  byte_test = rules.options.junk == 1 || rules.options.junk == 2
+  byte_test = fills_freed rules
 
   freed-uses : (state : State) → uses rules (with_freed_place rules place state) ≡ uses rules state
   unfolding with_freed_place
@@ -134,13 +145,13 @@ pub record Leaves {B A : Type 0} (g : broker.Ghosts B A) (rules : Rules) (held :
   pub drawn_is : (left.next).drawn ≡ drawn
 
 -- the tables after it is free, and what the broker was given
-abbrev pub left_tables : Rules → Tables → Option Place → Tables
+abbrev pub left_tables : Rules → Tables → Option Extent → Tables
 left_tables rules tables None = tables
-left_tables rules tables (Some gone) = evicted_tables rules tables gone.address
+left_tables rules tables (Some gone) = evicted_tables rules tables gone.first
 
-abbrev pub GivesOf : {B A : Type 0} → broker.Ghosts B A → Rules → Tables → B → B → Option Place → Option Move → Type 0
+abbrev pub GivesOf : {B A : Type 0} → broker.Ghosts B A → Rules → Tables → B → B → Option Extent → Option Move → Type 0
 GivesOf g rules tables before after None release = (after ≡ before) × (release ≡ None)
-GivesOf g rules tables before after (Some gone) release = GivesTo g before after (one_page (page_at gone.address)) (is_let_go rules tables gone.address) release
+GivesOf g rules tables before after (Some gone) release = GivesTo g before after (one_page (page_at gone.first)) (is_let_go rules tables gone.first) release
 
 module _ {B A : Type 0} (g : broker.Ghosts B A) (rules : Rules) (held : List ℕ) (drawn : ℕ) (tables : Tables) (state : State) (stands : StandFor rules tables state) (held_is : state.held ≡ held) (drawn_is : state.drawn ≡ drawn)
     (before after : B) where
@@ -192,17 +203,36 @@ module _ (old drawn delayed filled : Holdings) (slot : ℕ) (place : Place) (dra
       ∙ ap (freed_filled (rules_in old) place) (waits ∙ ap (λ (x : Holdings). delayed_place (tables_in x) slot place) draws)
 
 -- what an eviction says of the core
-pub record HasEvicted {B A : Type 0} (g : broker.Ghosts B A) (old new : Core) (before after : B) (gone : Option Place) (release : Option Move) : Type 0 where
+pub record HasEvicted {B A : Type 0} (g : broker.Ghosts B A) (old new : Core) (before after : B) (gone : Option Extent) (release : Option Move) : Type 0 where
   pub tables : tables_in new.state ≡ left_tables (rules_in old.state) (tables_in old.state) gone
   pub gives : GivesOf g (rules_in old.state) (tables_in old.state) before after gone release
   pub state : IsSameBut old.state new.state
   pub same : new ≡ record old { state = new.state }
 
-pub has-evicted : {B A : Type 0} (g : broker.Ghosts B A) (old new : Core) (before after : B) (gone : Option Place) (release : Option Move) → Evicts g old new before after gone release → HasEvicted g old new before after gone release
+pub has-evicted : {B A : Type 0} (g : broker.Ghosts B A) (old new : Core) (before after : B) (gone : Option Extent) (release : Option Move) → Evicts g old new before after gone release → HasEvicted g old new before after gone release
 has-evicted g old new before after None release is =
     let P : Core → Type 0 = λ core. HasEvicted g old core before after None release in
     subst P (sym is.0) (record { tables = refl; gives = (is.1, is.2); state = record { opts = refl; zones = refl; words = refl }; same = refl })
 has-evicted g old new before after (Some gone) release is = record { tables = is.tables; gives = is.broker; state = is.state; same = is.same }
+
+-- ---- the bytes of places
+
+-- memory has those of a place that lies on held pages
+place-held : (rules : Rules) (state : State) → IsSound rules state → (place : Place) → LiesOn rules state (use_of_place place) → HoldsPlace state.memory place
+place-held rules state is place lies byte low high =
+    let both = and_parts (is_in_arena byte rules.zones) (is_held state.held (page_at byte)) (lies byte (omega arith, omega arith)) in
+    let inside = and_parts (nat_le first_address byte) (nat_lt byte (address_of (zone_pages * rules.zones))) both.0 in
+    and_from _ _ inside.0 (shelf-holds state (page_at byte) (is.bytes (page_at byte)) ∙ both.1)
+
+-- and those of all that waits
+pub slots-held : (rules : Rules) (tables : Tables) (state : State) → IsSound rules state → StandFor rules tables state → AreHeldSlots tables.memory tables.slots
+slots-held rules tables state is stands =
+    let formed = well-formed rules state is in
+    let each : AreHeldSlots state.memory (slot_extents state.slots) = λ k d low.
+    subst (IsHeldSlot state.memory) (sym (get_or-map (option_map extent_of_place) state.slots k None d (subst (λ n. k < n) (length-map state.slots (option_map extent_of_place)) low)))
+    (if-waits (λ bytes. IsHeldPart state.memory bytes.first bytes.len) (slice_index_or state.slots k None) (λ place at.
+    place-held rules state is place (slot-has (LiesOn rules state) state.slots k place (all-second (LiesOn rules state) (flat_map (uses_of_block rules) state.live) (waiting state.slots) formed.on_held) at))) in
+    subst (λ memory. AreHeldSlots memory tables.slots) (sym stands.memory) (subst (AreHeldSlots state.memory) (sym stands.slots) each)
 
 -- ---- a live place is put off
 
@@ -230,18 +260,10 @@ module _ (rules : Rules) (state : State) (is : IsSound rules state) (address : �
 
   -- memory has the bytes of its place
   live-bytes : HoldsPlace state.memory (record { address = address; class = class })
-  live-bytes byte low high =
+  live-bytes =
       let formed = well-formed rules state is in
-      let one = use_of_place (record { address = block.address; class = class }) in
       let lies = (subst (AllByRecursion (LiesOn rules state)) (ap (uses_by_class rules block) live-class) (of-live (LiesOn rules state) formed.on_held)).0 in
-      let begins = block-begins in
-      let both = and_parts (is_in_arena byte rules.zones) (is_held state.held (page_at byte)) (lies byte (omega arith, omega arith)) in
-      let inside = and_parts (nat_le first_address byte) (nat_lt byte (address_of (zone_pages * rules.zones))) both.0 in
-      and_from _ _ inside.0 (shelf-holds state (page_at byte) (is.bytes (page_at byte)) ∙ both.1)
-
-pub if-some : {X : Type 0} (P : X → Type 0) (o : Option X) → ((x : X) → o ≡ Some x → P x) → IfSome o P
-if-some P None each = tt
-if-some P (Some x) each = each x refl
+      place-held rules state is (record { address = address; class = class }) (subst (λ a. LiesOn rules state (use_of_place (record { address = a; class = class }))) block-begins lies)
 
 module _ (rules : Rules) (tables : Tables) (state : State) (is : IsSound rules state) (stands : StandFor rules tables state) (address : ℕ) (place : Place) (block : Block)
     (here : standing rules state address ≡ LivePlace place block) where
@@ -305,8 +327,8 @@ module _ (rules : Rules) (tables : Tables) (state : State) (is : IsSound rules s
       freed-stand =
           let Stands : State → Tables → Type 0 = λ s t. StandFor rules t s in
           let same : freed_place waits gone.address
-          ≡ record tables { pages = if is_free_page (uses rules next) page then with_run tables.pages page 1 table.Free else tables.pages; chunks = with_freed (with_place tables.chunks place.address has.Delayed) gone.address; slots = slice_set tables.slots slot (Some place) } =
-          ap (λ b. record tables { pages = if b then with_run tables.pages page 1 table.Free else tables.pages; chunks = with_freed (with_place tables.chunks place.address has.Delayed) gone.address; slots = slice_set tables.slots slot (Some place) }) goes-by in
+          ≡ record tables { pages = if is_free_page (uses rules next) page then with_run tables.pages page 1 table.Free else tables.pages; chunks = with_freed (with_place tables.chunks place.address has.Delayed) gone.address; slots = with_slot tables.slots slot (extent_of_place place) } =
+          ap (λ b. record tables { pages = if b then with_run tables.pages page 1 table.Free else tables.pages; chunks = with_freed (with_place tables.chunks place.address has.Delayed) gone.address; slots = with_slot tables.slots slot (extent_of_place place) }) goes-by in
           subst (Stands put) (sym (freed-after rules place waits gone.address))
           (freed-stands rules place (freed_place waits gone.address) next
           (subst (Stands next) (sym same) (put-off-gone rules tables state place block slot live class_is low is next-sound stands gone full)))
@@ -323,7 +345,7 @@ module _ (rules : Rules) (tables : Tables) (state : State) (is : IsSound rules s
       held-there = gone-held rules tables state place block slot live class_is low is next-sound stands gone full
 
       -- the place that the slot had is there still
-      pub gone-there : (own : Holdings) → tables_in own ≡ filled → rules.zones ≤ most_zones → IsThere own gone
+      pub gone-there : (own : Holdings) → tables_in own ≡ filled → rules.zones ≤ most_zones → IsThere own (extent_of_place gone)
       gone-there own own_is few =
           let there = gone-low rules tables state place block slot live class_is low is next-sound stands gone full in
           let bytes = freed-stand in
@@ -345,8 +367,8 @@ module _ (rules : Rules) (tables : Tables) (state : State) (is : IsSound rules s
       gone-is_held = held-there
 
     -- with what the slot had evicted
-    pub put-off-leaves : {B A : Type 0} (g : broker.Ghosts B A) (gone : Option Place) → slot_of state slot ≡ gone → (before after : B) (release : Option Move) → GivesOf g rules (freed_filled rules place (delayed_place tables slot place)) before after gone release
-        → Leaves g rules state.held state.drawn (left_tables rules (freed_filled rules place (delayed_place tables slot place)) gone) before after (evicted rules (put_off rules state slot place) gone) release
+    pub put-off-leaves : {B A : Type 0} (g : broker.Ghosts B A) (gone : Option Place) → slot_of state slot ≡ gone → (before after : B) (release : Option Move) → GivesOf g rules (freed_filled rules place (delayed_place tables slot place)) before after (option_map extent_of_place gone) release
+        → Leaves g rules state.held state.drawn (left_tables rules (freed_filled rules place (delayed_place tables slot place)) (option_map extent_of_place gone)) before after (evicted rules (put_off rules state slot place) gone) release
     put-off-leaves g None empty before after release gives =
         leaves-none g rules state.held state.drawn filled put
         (freed-stands rules place waits next (put-off-new rules tables state place block slot live class_is low is next-sound stands empty))
@@ -356,12 +378,6 @@ module _ (rules : Rules) (tables : Tables) (state : State) (is : IsSound rules s
         (page_goes filled gone.address) (goes gone full) (surplus gone full) release gives
 
 -- ---- the steps
-
-pub again-seen : (rules : Rules) (state : State) (address : ℕ) (seen : Bool) → seen ≡ (rules.options.freecheck || slot_holds (slot_of state (drawn_slot rules state)) address)
-    → freed_again rules state address ≡ record { reply = if seen then reply.Fault fault.DoubleFree else reply.Done; words = 1; release = None; next = drawn_more 1 state }
-unfolding freed_again
-again-seen rules state address seen is =
-    ap (λ b. let step : Step = record { reply = if b then reply.Fault fault.DoubleFree else reply.Done; words = 1; release = None; next = drawn_more 1 state } in step) (sym is)
 
 pub again-says : (seen : Bool) → says_no_run (if seen then reply.Fault fault.DoubleFree else reply.Done) ≡ false
 again-says true = refl
@@ -373,6 +389,87 @@ unfolding delay
 delay-is rules state place slot before at was =
     ap (λ s. done_with 1 (evicted rules (put_off rules (drawn_more 1 state) s place) (slot_of state s))) (sym at)
     ∙ ap (λ o. done_with 1 (evicted rules (put_off rules (drawn_more 1 state) slot place) o)) (sym was)
+
+-- a write after free is told, and where there is none the place is put off
+module _ (rules : Rules) (state : State) (place : Place) (block : Block) (whole : broken_canary rules state block ≡ None) where
+  by-late : (late : Option Changed) → written_late rules state (drawn_slot rules state) ≡ late → delay_unless (misuse rules state block) rules state place ≡ delay_unless (first_misuse None late) rules state place
+  by-late late late_is =
+      ap (λ found. delay_unless found rules state place) (ap (λ broken. first_misuse broken (written_late rules state (drawn_slot rules state))) whole ∙ ap (first_misuse None) late_is)
+
+  pub late-told : (late : Changed) → written_late rules state (drawn_slot rules state) ≡ Some late → delay_unless (misuse rules state block) rules state place ≡ told state (fault.WriteAfterFree late.addr late.offset)
+  late-told late = by-late (Some late)
+
+  pub none-late : written_late rules state (drawn_slot rules state) ≡ None → delay_unless (misuse rules state block) rules state place ≡ delay rules state place
+  none-late = by-late None
+
+-- the slot that is drawn, and what is written late by the tables
+module _ (old : Core) (is : IsCore old) (own : Holdings) (draws : own ≡ with_drawn 1 old.state) (word slot : ℕ) (word_is : word ≡ word_at (rules_in old.state) old.state.words.place) (slot_is : slot ≡ word % 16) where
+  pub slot-drawn : slot ≡ drawn_slot (rules_in old.state) (core_state old)
+  slot-drawn = slot_is ∙ ap (λ w. w % 16) (word_is ∙ ap (word_at (rules_in old.state)) is.drawn)
+
+  pub waits-at : slot_at own.slots slot ≡ option_map extent_of_place (slot_of (core_state old) slot)
+  waits-at =
+      let stands = is.tables in
+      ap (λ (x : Holdings). slot_at x.slots slot) draws ∙ ap (λ slots. slot_at slots slot) stands.slots ∙ extent-at (core_state old).slots slot
+
+  pub again-seen : (address : ℕ) (seen : Bool) → seen ≡ (own.opts.freecheck || begins_at address (slot_at own.slots slot))
+      → freed_again (rules_in old.state) (core_state old) address ≡ record { reply = if seen then reply.Fault fault.DoubleFree else reply.Done; words = 1; release = None; next = drawn_more 1 (core_state old) }
+  unfolding freed_again
+  again-seen address seen is_seen =
+      let waits = slot_of (core_state old) (drawn_slot (rules_in old.state) (core_state old)) in
+      let same = is_seen ∙ ap (λ (x : Holdings). x.opts.freecheck || begins_at address (slot_at own.slots slot)) draws
+      ∙ ap (λ bytes. old.state.opts.freecheck || begins_at address bytes) (waits-at ∙ ap (λ k. option_map extent_of_place (slot_of (core_state old) k)) slot-drawn) ∙ ap (λ b. old.state.opts.freecheck || b) (begins-waiting waits address) in
+      ap (λ b. let step : Step = record { reply = if b then reply.Fault fault.DoubleFree else reply.Done; words = 1; release = None; next = drawn_more 1 (core_state old) } in step) (sym same)
+
+  pub late-shown : written_in (rules_in own) own.shelf own.slots slot ≡ written_late (rules_in old.state) (core_state old) (drawn_slot (rules_in old.state) (core_state old))
+  late-shown =
+      let stands = is.tables in
+      let rules = rules_in old.state in
+      ap (λ (x : Holdings). written_in (rules_in x) x.shelf x.slots slot) draws ∙ ap (λ memory. written_in rules memory old.state.slots slot) stands.memory
+      ∙ ap (λ slots. written_in rules (core_state old).memory slots slot) stands.slots ∙ ap (written_late rules (core_state old)) slot-drawn
+
+-- ---- an answer for which the word of the slot is drawn, and nothing else
+
+pub record IsTold (old new : Core) (who : Who) (address : ℕ) (answer : Reply) : Type 0 where
+  pub kept : IsCore new
+  pub quiet : IsQuiet old new who (Free address) answer
+  pub taken : Frees old new who address answer
+
+pub told-by : (old new : Core) (who : Who) (address : ℕ) (answer : Reply) (own : Holdings) (word : ℕ) (words : List ℕ) → IsCore old
+    → free (rules_in old.state) (core_state old) address ≡ record { reply = answer; words = 1; release = None; next = drawn_more 1 (core_state old) }
+    → word ≡ word_at (rules_in old.state) old.state.words.place → own ≡ with_drawn 1 old.state → words ≡ word ∷ []
+    → new.journal.items ≡ old.journal.items ++ Call (unasked_entry who (Free address) answer words None) ∷ [] → new ≡ record (record old { state = own }) { journal = new.journal }
+    → IsTold old new who address answer
+told-by old new who address answer own word words is step_is word_is draws words_are added same =
+    let rules = rules_in old.state in
+    let state = core_state old in
+    let step : Step = record { reply = answer; words = 1; release = None; next = drawn_more 1 state } in
+    let owns = ap (λ (x : Core). x.state) same ∙ draws in
+    let Stands : Tables → Type 0 = λ t. StandFor rules t (drawn_more 1 state) in
+    let does = unasked-does old new who (Free address) answer _ step words None is
+    (record {
+      wish = refl;
+      whole_is = refl;
+      step_is = step_is;
+      gives_up = record { run_is = refl; inside = tt };
+      words_are = words_are ∙ ap (λ w. w ∷ []) (word_is ∙ ap (word_at rules) is.drawn);
+      tables = subst Stands (sym (ap tables_in owns)) (words-drawn rules (tables_in old.state) state is.tables 1);
+      drawn = ap (λ (x : Holdings). x.words.place) owns ∙ ap (λ n. n + 1) is.drawn;
+      rules = ap rules_in owns;
+      canary = ap (λ (x : Core). x.canary) same;
+      room = ap (λ (x : Core). x.room) same;
+    })
+    refl added in
+    record {
+      kept = kept old new _ _ _ _ _ _ _ is does;
+      taken = taken old new _ _ _ _ _ _ _ is does;
+      quiet = record {
+        rules = does.rules;
+        held = ap (λ (s : State). s.held) (left_after old new _ _ _ _ _ _ _ is does) ∙ ap (λ (s : Step). (s.next).held) step_is;
+        words = words;
+        added = added;
+      };
+    }
 
 -- ---- a free that is done
 

@@ -9,7 +9,7 @@ pub mod FreeLaws
 pub mod MallocLaws
 pub mod Pages
 pub mod PlaceOwn
-pub mod Slots
+pub mod SlotLaws
 pub mod Spending
 pub mod TableAnswers
 pub mod TableBlocks

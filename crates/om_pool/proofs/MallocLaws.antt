@@ -1,6 +1,6 @@
 -- What a search of the broker answers is what the zones may answer, and what an allocation shows of the core and of the broker.
-use Rattle.std.proofs.Common.{◌≡◌, ℕ, ◌+◌, ◌-◌, ◌*◌, ◌/◌, ◌<◌, ◌≤◌, Bool, true, false, ◌==◌, List, [], ◌∷◌, ◌++◌, length, map, if◌then◌else◌, Option, Some, None, is_some, refl, sym, ap, ◌∙◌, subst, arith}
-use Rattle.std.specs.List.{slice_get, range_with_len}
+use Rattle.std.proofs.Common.{◌≡◌, ℕ, ◌+◌, ◌-◌, ◌*◌, ◌/◌, ◌<◌, ◌≤◌, Bool, true, false, ◌==◌, List, [], ◌∷◌, ◌++◌, length, if◌then◌else◌, Option, Some, None, is_some, refl, sym, ap, ◌∙◌, subst, arith}
+use Rattle.std.specs.List.{slice_get}
 use Rattle.std.proofs.lemmas.Bool.{cases_Bool}
 use Rattle.std.proofs.lemmas.Nat.{mod_below}
 use mathlib.Core.Logic.{⊎_elim}
@@ -65,8 +65,8 @@ module _ {B A : Type 0} (g : broker.Ghosts B A) (rules : Rules) (state : State) 
       (λ was. was)
       (cases_Bool (is_held state.held page))
 
-  names : (answer : Claim) → IsSearched g old new n word looks answer → NamesSearched rules word looks
-  names answer search = let P : ℕ → Type 0 = λ z. map (λ (look : Look). look.zone) looks ≡ map (searched_zone z word) (range_with_len 0 (length looks)) in subst P is.zones search.names
+  names : (answer : Claim) → IsSearched g old new n word looks answer → NamesSearched rules.zones word looks
+  names answer search = subst (λ z. NamesSearched z word looks) is.zones search.names
 
   pub may-asked : (own : Option ℕ) (answer : Option Claim) → IsAsked g (is_some own) old new n word looks answer → MayAnswer rules state (search_unless own n word) (record { claim = claim_in answer; looks = looks; taken = None })
   may-asked (Some page) answer asked = (ap claim_in asked.2, asked.1, refl)

@@ -13,6 +13,7 @@ use Rattle.om_chunk.specs.Places.{ChunkPage, is_free, is_unused, with_place_at}
 use Rattle.om_chunk.specs.declared.place.Place as chunk
 use Rattle.om_chunk.specs.declared.place.Place.TheVariants as has
 use Rattle.om_chunk.proofs.PageLaws.{kept-freed}
+use Rattle.om_delay.specs.Slots.{slot_count, with_slot}
 use Rattle.om_geom.specs.Addresses.{page_at, page_extent}
 use Rattle.om_geom.specs.AddressLaws.{SharesByte-true}
 use Rattle.om_geom.specs.Classes.{is_class, places_of}
@@ -20,10 +21,11 @@ use Rattle.om_geom.specs.FitLaws.{find-passes, list_all-range, list_all-range_fr
 use Rattle.om_geom.specs.Numbers.{first_address, zone_pages}
 use Rattle.om_model.specs.Pool.Free.{without_block, slot_of, into_slot}
 use Rattle.om_model.specs.Pool.InUse.{Kind, Chunk, Pages, Guard, Use, use_of_place, data_of, guard_of, uses_by_class, uses_of_pages, uses_of_block, uses, touches, page_kind, is_free_page}
+use Rattle.om_model.specs.Pool.Junk.{extent_of_place}
 use Rattle.om_model.specs.Pool.Picks.{place_address}
 use Rattle.om_model.specs.Pool.Rules.{Rules, size_class}
 use Rattle.om_model.specs.Pool.Standing.{block_at, delayed_at}
-use Rattle.om_model.specs.Pool.State.{State, slot_count, delayed, is_held}
+use Rattle.om_model.specs.Pool.State.{State, delayed, is_held}
 use Rattle.om_model.specs.Pool.WellFormed.{BeginsRight}
 use Rattle.om_model.specs.declared.block.Block.{Block}
 use Rattle.om_model.specs.declared.block.Place.{Place}
@@ -40,7 +42,7 @@ use Rattle.om_pages.specs.declared.kind.PageKind.{PageKind}
 use Rattle.om_pages.specs.declared.kind.PageKind.TheVariants as table
 use Rattle.om_pool.specs.Tables.{Tables, StandFor, block_on, kind_by, kind_in, has_by, place_has}
 use Rattle.om_pool.proofs.TableAnswers.{place-there}
-use Rattle.om_pool.proofs.Slots.{slot-has, slot-found, slot-other, slot-all, slot-related}
+use Rattle.om_pool.proofs.SlotLaws.{extents-put, slot-has, slot-found, slot-other, slot-all, slot-related}
 use Rattle.om_pool.proofs.TableSteps.{page_by, chunk_page_by, Shows, Unbegun, pages_in, kinds_of, kind-class, vacant, vacant-free, free-places, same-table, shows, kind-stays, place-shown}
 
 -- ---- what is found, and what is in use
@@ -337,7 +339,7 @@ module _ (rules : Rules) (tables : Tables) (state : State) (place : Place) (bloc
 
   -- the slot had nothing
   pub put-off-new : slot_of state slot ≡ None
-      → StandFor rules (record tables { chunks = with_place tables.chunks place.address has.Delayed; slots = slice_set tables.slots slot (Some place) }) (into_slot state slot place)
+      → StandFor rules (record tables { chunks = with_place tables.chunks place.address has.Delayed; slots = with_slot tables.slots slot (extent_of_place place) }) (into_slot state slot place)
   put-off-new empty =
       let nothing : (P : Place → Type 0) → IfSome (slot_of state slot) P = λ P. subst (λ o. IfSome o P) (sym empty) tt in
       let shown = delayed-shown (place_has next) has-here (λ a ne. has-others a ne (nothing (λ gone. (gone.address == a) ≡ false))) in
@@ -347,7 +349,7 @@ module _ (rules : Rules) (tables : Tables) (state : State) (place : Place) (bloc
         chunks_all = shown.long;
         pages = λ p low. stand.pages p low ∙ others-stay p (kinds p);
         chunks = λ p low. shown.each p low ∙ sym (same-table next p (kinds_of rules next p) ∙ ap (chunk_page_by (place_has next) p) (kinds p));
-        slots = ap (λ slots. slice_set slots slot (Some place)) stand.slots;
+        slots = ap (λ slots. with_slot slots slot (extent_of_place place)) stand.slots ∙ extents-put state.slots slot place;
         memory = stand.memory;
       }
 
@@ -498,7 +500,7 @@ module _ (rules : Rules) (tables : Tables) (state : State) (place : Place) (bloc
     pub put-off-gone : StandFor rules (record tables {
       pages = if is_free_page (uses rules (into_slot state slot place)) (page_at gone.address) then with_run tables.pages (page_at gone.address) 1 table.Free else tables.pages;
       chunks = with_freed (with_place tables.chunks place.address has.Delayed) gone.address;
-      slots = slice_set tables.slots slot (Some place);
+      slots = with_slot tables.slots slot (extent_of_place place);
     }) (into_slot state slot place)
     put-off-gone =
         let shown = before-shown in
@@ -508,6 +510,6 @@ module _ (rules : Rules) (tables : Tables) (state : State) (place : Place) (bloc
           chunks_all = length-set before gone_page (page_left before gone.address) ∙ shown.long;
           pages = pages-freed free refl;
           chunks = λ p low. chunks-freed p low ∙ sym (same-table next p (kinds_of rules next p));
-          slots = ap (λ slots. slice_set slots slot (Some place)) stand.slots;
+          slots = ap (λ slots. with_slot slots slot (extent_of_place place)) stand.slots ∙ extents-put state.slots slot place;
           memory = stand.memory;
         }

@@ -1,10 +1,11 @@
 -- What a pool asks of its broker in a call, and what it was answered.
 use Rattle.std.specs.Prelude.{◌≡◌, ℕ, ◌+◌, ◌≤◌, Bool, true, false, List, [], ◌∷◌, length, Option, Some, None}
-use Rattle.om_broker.specs.Claims.{one_more_ask, Adds, Finds, NamesSearched, ShowsNothingElse, ShowsSearch, Spends, moves_of_claim}
+use Rattle.om_broker.specs.Claims.{one_more_ask, Adds, Finds, ShowsNothingElse, ShowsSearch, Spends, moves_of_claim}
 use Rattle.om_broker.specs.Sights.{released}
 use Rattle.om_broker.specs.declared.broker.Broker as broker
 use Rattle.om_broker.specs.declared.broker.Claim.{Claim}
 use Rattle.om_broker.specs.declared.broker.Claim.TheVariants.{Claimed, NoRun}
+use Rattle.om_model.specs.Pool.Journal.{NamesSearched}
 use Rattle.om_model.specs.Pool.Runs.{Run, run_of}
 use Rattle.om_geom.specs.Numbers.{zone_pages}
 use Rattle.om_model.specs.Pool.State.{without_run}
@@ -42,7 +43,7 @@ module _ {B A : Type 0} (g : broker.Ghosts B A) where
   IsAsked false old new n word looks (Some answer) = IsSearched old new n word looks answer
 
   -- the run was given back
-  pub record IsGiven (old new : B) (run : Run) (move : Move) : Type 0 where
+  pub record IsRunGivenBack (old new : B) (run : Run) (move : Move) : Type 0 where
     pub same : IsSameBroker old new
     pub asked : g.asks new ≡ g.asks old
     pub paid : g.moves_left new + 1 ≡ g.moves_left old + run.count
@@ -52,7 +53,7 @@ module _ {B A : Type 0} (g : broker.Ghosts B A) where
 
   -- its pages are held no longer
   pub record IsLetGo (old new : B) (before after : List ℕ) (run : Run) (move : Move) : Type 0 where
-    pub given : IsGiven old new run move
+    pub given : IsRunGivenBack old new run move
     pub left : after ≡ without_run run before
 
   -- what becomes of the broker and of the held pages by a release, or by none

@@ -1,13 +1,13 @@
 -- What ties a pool to its broker. The broker has made the moves that stand in the journal, it has seen every version that
 -- the journal names, and it has the pages that are held. Each look of a search shows that the zone had no such run. The
 -- versions that the journal names for a zone never fall.
-use Rattle.std.specs.Prelude.{◌≡◌, ℕ, ◌+◌, ◌≤◌, true, List, Contains, None, IsSomeAnd}
+use Rattle.std.specs.Prelude.{◌≡◌, ℕ, true, List, Contains, None, IsSomeAnd}
 use Rattle.std.specs.List.{AllByRecursion, flat_map}
 use Rattle.om_broker.specs.Claims.{Adds}
+use Rattle.om_broker.specs.Having.{IsSeenMove}
 use Rattle.om_broker.specs.Sights.{Seen, Names, IsNoOlder, IsNewer, Has}
 use Rattle.om_broker.specs.declared.broker.Broker as broker
 use Rattle.om_geom.specs.Fit.{fit_of, has_bit, searched_bit}
-use Rattle.om_geom.specs.Numbers.{zone_pages}
 use Rattle.om_model.specs.Data.CallEntry.{CallEntry}
 use Rattle.om_model.specs.Pool.Rules.{Rules}
 use Rattle.om_model.specs.Pool.State.{is_held}
@@ -27,11 +27,6 @@ pub record IsSeen (sight : List Seen) (zone version : ℕ) : Type 0 where
 
 abbrev pub IsSeenName : List Seen → Named → Type 0
 IsSeenName sight named = IsSeen sight named.zone named.version
-
--- the move was seen, and lies in its zone
-pub record IsSeenMove (sight : List Seen) (m : ZoneMove) : Type 0 where
-  pub seen : IsSeen sight m.made.zone m.made.version
-  pub inside : m.made.first + m.made.count ≤ zone_pages
 
 -- what was seen at the look had no run of so many pages, for a search by the word
 pub record IsFullIn (sight : List Seen) (count word : ℕ) (look : Look) : Type 0 where

@@ -3,6 +3,7 @@ use Rattle.std.specs.Prelude.{◌≡◌, ℕ, ◌*◌, ◌<◌, ◌&&◌, Bool, 
 use Rattle.om_chunk.specs.Pages.{place_in}
 use Rattle.om_geom.specs.Addresses.{address_of, page_at}
 use Rattle.om_geom.specs.Numbers.{zone_pages, most_zones}
+use Rattle.om_geom.specs.declared.address.Extent.{Extent}
 use Rattle.om_pages.specs.Kinds.{is_held}
 use Rattle.om_pages.specs.Tables.{AreAll}
 use Rattle.om_model.specs.Pool.Canaries.{broken_canary}
@@ -18,7 +19,7 @@ use Rattle.om_model.specs.declared.operation.Op.TheVariants.{Free}
 use Rattle.om_model.specs.declared.operation.Who.{Who}
 use Rattle.om_model.specs.declared.reply.Reply.{Reply}
 use Rattle.om_broker.specs.declared.broker.Broker as broker
-use Rattle.om_pool.specs.Asking.{one_page, IsGiven}
+use Rattle.om_pool.specs.Asking.{one_page, IsRunGivenBack}
 use Rattle.om_pool.specs.CoreKept.{core_state, core_view}
 use Rattle.om_pool.specs.HoldingsView.{rules_in, tables_in, IsSameBut}
 use Rattle.om_pool.specs.PoolView.{Takes}
@@ -49,12 +50,12 @@ IsWholeAt core address place =
 
 -- ---- what becomes of a place that left its slot
 
--- the place is one of a chunk page, and its page is held
-pub record IsThere (own : Holdings) (place : Place) : Type 0 where
-  pub chunk : IsSome (place_in own.chunks.pages place.address)
-  pub held : AreAll is_held own.pages (page_at place.address) 1
-  pub bytes : HoldsPage own.shelf (page_at place.address)
-  pub low : page_at place.address < zone_pages * most_zones
+-- it is one of a chunk page, and its page is held
+pub record IsThere (own : Holdings) (gone : Extent) : Type 0 where
+  pub chunk : IsSome (place_in own.chunks.pages gone.first)
+  pub held : AreAll is_held own.pages (page_at gone.first) 1
+  pub bytes : HoldsPage own.shelf (page_at gone.first)
+  pub low : page_at gone.first < zone_pages * most_zones
 
 -- the tables once it is free, and its page gone where that is surplus
 abbrev pub evicted_tables : Rules → Tables → ℕ → Tables
@@ -70,7 +71,7 @@ is_let_go rules tables address = page_goes tables address && is_surplus_by rules
 abbrev pub GivesTo : {B A : Type 0} → broker.Ghosts B A → B → B → Run → Bool → Option Move → Type 0
 GivesTo g before after run false release = (after ≡ before) × (release ≡ None)
 GivesTo g before after run true None = ⊥
-GivesTo g before after run true (Some move) = IsGiven g before after run move
+GivesTo g before after run true (Some move) = IsRunGivenBack g before after run move
 
 -- a run that became free is kept, or given to the broker where it is surplus
 pub record IsKeptOrGone {B A : Type 0} (g : broker.Ghosts B A) (old new : Core) (before after : B) (run : Run) (release : Option Move) : Type 0 where
@@ -79,15 +80,15 @@ pub record IsKeptOrGone {B A : Type 0} (g : broker.Ghosts B A) (old new : Core) 
   pub broker : GivesTo g before after run (is_surplus_by (rules_in old.state) (tables_in old.state)) release
   pub same : new ≡ record old { state = new.state }
 
-pub record IsEvicted {B A : Type 0} (g : broker.Ghosts B A) (old new : Core) (before after : B) (place : Place) (release : Option Move) : Type 0 where
-  pub tables : tables_in new.state ≡ evicted_tables (rules_in old.state) (tables_in old.state) place.address
+pub record IsEvicted {B A : Type 0} (g : broker.Ghosts B A) (old new : Core) (before after : B) (gone : Extent) (release : Option Move) : Type 0 where
+  pub tables : tables_in new.state ≡ evicted_tables (rules_in old.state) (tables_in old.state) gone.first
   pub state : IsSameBut old.state new.state
-  pub broker : GivesTo g before after (one_page (page_at place.address)) (is_let_go (rules_in old.state) (tables_in old.state) place.address) release
+  pub broker : GivesTo g before after (one_page (page_at gone.first)) (is_let_go (rules_in old.state) (tables_in old.state) gone.first) release
   pub same : new ≡ record old { state = new.state }
 
-abbrev pub Evicts : {B A : Type 0} → broker.Ghosts B A → Core → Core → B → B → Option Place → Option Move → Type 0
+abbrev pub Evicts : {B A : Type 0} → broker.Ghosts B A → Core → Core → B → B → Option Extent → Option Move → Type 0
 Evicts g old new before after None release = (new ≡ old) × (after ≡ before) × (release ≡ None)
-Evicts g old new before after (Some place) release = IsEvicted g old new before after place release
+Evicts g old new before after (Some gone) release = IsEvicted g old new before after gone release
 
 -- ---- a page block
 

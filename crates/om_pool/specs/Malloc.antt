@@ -1,6 +1,6 @@
 -- The pages for a block: some of the pool's own, or claimed ones that aren't held yet. What becomes of the tables by a chunk
 -- on a page, and by a page block on a run.
-use Rattle.std.specs.Prelude.{◌≡◌, ℕ, ◌+◌, ◌*◌, ◌<◌, ◌≤◌, Bool, List, Option, Some, None, if◌then◌else◌}
+use Rattle.std.specs.Prelude.{◌≡◌, ℕ, ◌+◌, ◌*◌, ◌<◌, ◌≤◌, Bool, List, Option, Some, None}
 use Rattle.om_broker.specs.declared.broker.Claim.{Claim}
 use Rattle.om_broker.specs.declared.broker.Claim.TheVariants.{Claimed}
 use Rattle.om_frame.specs.Frames.{PageBytes, zero_frames}
@@ -13,13 +13,12 @@ use Rattle.om_model.specs.Pool.Malloc.{malloc}
 use Rattle.om_model.specs.Pool.Picks.{place_address}
 use Rattle.om_model.specs.Pool.Rules.{Rules}
 use Rattle.om_model.specs.Pool.Runs.{Run, run_of}
+use Rattle.om_model.specs.Pool.Steps.{null_or_fault_by}
 use Rattle.om_model.specs.declared.entry.Move.{Move}
 use Rattle.om_model.specs.declared.operation.Op.TheVariants.{Malloc}
 use Rattle.om_model.specs.declared.operation.Who.{Who}
-use Rattle.om_model.specs.declared.reply.Fault.TheVariants.{OutOfMemory}
 use Rattle.om_model.specs.declared.reply.Reply.{Reply}
 use Rattle.om_model.specs.declared.reply.Reply.TheVariants as reply
-use Rattle.om_model.specs.declared.reply.Why.{Why}
 use Rattle.om_model.specs.declared.reply.Why.TheVariants as why
 use Rattle.om_pages.specs.FreeRuns.{lowest_run}
 use Rattle.om_pages.specs.Kinds.{is_absent, is_held}
@@ -38,10 +37,7 @@ abbrev pub Mallocs : Core → Core → Who → ℕ → ℕ → Reply → Type 0
 Mallocs old new who size site answer =
     Takes (core_view old) (core_view new) who (Malloc size site) answer (λ answers. malloc (rules_in old.state) (core_state old) size site answers.claim)
 
--- a null, or where the option says so the fault in its place
-abbrev pub null_or_fault_by : Bool → Why → Reply
-null_or_fault_by xmalloc reason = if xmalloc then reply.Fault (OutOfMemory reason) else reply.Null reason
-
+-- the block, or that no run was found
 abbrev pub reply_for : Bool → Option ℕ → Reply
 reply_for xmalloc (Some address) = reply.Block address
 reply_for xmalloc None = null_or_fault_by xmalloc why.NoRun

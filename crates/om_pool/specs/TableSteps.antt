@@ -1,16 +1,18 @@
 -- What a step makes of the tables.
-use Rattle.std.specs.Prelude.{◌≡◌, ℕ, ◌*◌, ◌≤◌, Bool, ◌==◌, ◌||◌, not, nat_le, if◌then◌else◌, length, Option, Some, None, IsSomeAnd, slice_set}
+use Rattle.std.specs.Prelude.{◌≡◌, ℕ, ◌*◌, ◌≤◌, Bool, ◌==◌, not, nat_le, if◌then◌else◌, length, Option, Some, None, IsSomeAnd}
 use Rattle.std.specs.Option.{is_none}
 use Rattle.om_chunk.specs.Pages.{page_in, page_left, with_freed, with_page, with_place}
 use Rattle.om_chunk.specs.Picks.{picked, place_on}
 use Rattle.om_chunk.specs.Places.{ChunkPage}
 use Rattle.om_chunk.specs.declared.pages.Picked.{Picked}
 use Rattle.om_chunk.specs.declared.place.Place.TheVariants.{Live, Delayed}
+use Rattle.om_delay.specs.Changes.{freed_byte}
+use Rattle.om_delay.specs.Slots.{with_slot}
 use Rattle.om_frame.specs.Frames as frame_list
 use Rattle.om_frame.specs.Memory as frames
 use Rattle.om_frame.specs.Memory.{filled}
 use Rattle.om_geom.specs.declared.address.Extent.{Extent}
-use Rattle.om_model.specs.Pool.Junk.{extent_of_place, fresh_byte, freed_byte, freed_len}
+use Rattle.om_model.specs.Pool.Junk.{extent_of_place, fills_freed, fresh_byte, freed_len}
 use Rattle.om_frame.specs.Frames.{zero_frames}
 use Rattle.om_geom.specs.Addresses.{address_of, page_at}
 use Rattle.om_geom.specs.Numbers.{most_zones, page_size, zone_pages}
@@ -57,7 +59,7 @@ freed_place tables address = record (record tables { chunks = with_freed tables.
 
 -- a live place waits in the slot
 abbrev pub delayed_place : Tables → ℕ → Place → Tables
-delayed_place tables slot place = record (record tables { chunks = with_place tables.chunks place.address Delayed }) { slots = slice_set tables.slots slot (Some place) }
+delayed_place tables slot place = record (record tables { chunks = with_place tables.chunks place.address Delayed }) { slots = with_slot tables.slots slot (extent_of_place place) }
 
 -- more pages are free than the pool keeps
 abbrev pub is_surplus_by : Rules → Tables → Bool
@@ -78,7 +80,7 @@ fresh_filled rules extent tables = if rules.options.junk == 2 then filled_by fre
 
 -- a freed place is filled at levels 1 and 2
 abbrev pub freed_filled : Rules → Place → Tables → Tables
-freed_filled rules place tables = if rules.options.junk == 1 || rules.options.junk == 2 then filled_by freed_byte (extent_of_place place) tables else tables
+freed_filled rules place tables = if fills_freed rules then filled_by freed_byte (extent_of_place place) tables else tables
 
 -- the first bytes of a freed block of so many data pages at level 1, and all of them at level 2
 abbrev pub freed_pages_filled : Rules → ℕ → ℕ → Tables → Tables

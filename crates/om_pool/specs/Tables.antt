@@ -9,11 +9,13 @@ use Rattle.om_chunk.specs.declared.place.Place.TheVariants as has
 use Rattle.om_geom.specs.Addresses.{page_at}
 use Rattle.om_geom.specs.Classes.{data_pages, places_of}
 use Rattle.om_geom.specs.Numbers.{zone_pages}
+use Rattle.om_geom.specs.declared.address.Extent.{Extent}
 use Rattle.om_model.specs.Pool.InUse.{Kind, Chunk, Pages, Guard, touches, page_kind, uses, uses_of_block}
 use Rattle.om_model.specs.Pool.Picks.{place_address}
 use Rattle.om_model.specs.Pool.Rules.{Rules}
 use Rattle.om_model.specs.Pool.Standing.{block_at, delayed_at}
 use Rattle.om_model.specs.Pool.State.{State, is_held}
+use Rattle.om_model.specs.Pool.WriteAfterFree.{slot_extents}
 use Rattle.om_model.specs.declared.block.Block.{Block}
 use Rattle.om_model.specs.declared.block.Place.{Place}
 use Rattle.om_pages.specs.Kinds.{data_page, guard_page}
@@ -24,7 +26,7 @@ use Rattle.om_pages.specs.declared.kind.PageKind.TheVariants as page_is
 pub record Tables : Type 0 where
   pub pages : List PageKind
   pub chunks : List (Option ChunkPage)
-  pub slots : List (Option Place)
+  pub slots : List (Option Extent)
   pub memory : List (List ℕ)
 
 -- ---- what a page is
@@ -76,5 +78,5 @@ pub record StandFor (rules : Rules) (tables : Tables) (state : State) : Type 0 w
   pub chunks_all : length tables.chunks ≡ zone_pages * rules.zones
   pub pages : (page : ℕ) → page < zone_pages * rules.zones → kind_of tables.pages page ≡ kind_in rules state page
   pub chunks : (page : ℕ) → page < zone_pages * rules.zones → page_in tables.chunks page ≡ chunk_by state page (page_kind (uses rules state) page)
-  pub slots : tables.slots ≡ state.slots
+  pub slots : tables.slots ≡ slot_extents state.slots
   pub memory : tables.memory ≡ state.memory

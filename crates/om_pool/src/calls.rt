@@ -102,9 +102,13 @@ impl<B: Broker> Pool<B> {
         self.core.malloc(rt, &mut self.broker, who, size, site)
     }
 
-    /// Frees an address, as free(3): a place is delayed in the slot that a word chooses, and the pages
-    /// of a page block become free at once. Pages that become free stay, or are released as one where
-    /// more pages are free than the pool keeps.
+    /// Frees an address. A live place is delayed in the slot that a word chooses; the pages of a page
+    /// block become free at once. Pages that become free stay, or are released as one where more pages
+    /// are free than the pool keeps. A misuse that is seen is answered with its fault, and only the word
+    /// is spent: a second free; a changed canary behind the block, with its offset; a delayed place that
+    /// was written after its free, with its address and the offset. Under freecheck every delayed place
+    /// is looked at, otherwise the one in the drawn slot. Address 0 is a miss as any address outside the
+    /// arena is: that free(3) does nothing there is the caller's matter.
     pub fn free<R: Wait>(&mut self, rt: &R, who: Who, addr: Addr) -> Reply
         requires room { 1 ≤ self.old.spare }
         requires short { length self.old.journal.items < 2 ^ 32 - 1 }
@@ -120,7 +124,7 @@ impl<B: Broker> Pool<B> {
     }
 
     /// Reads the byte at an address, be it in a block, between blocks, freed or on a free page. No
-    /// byte of a block of size 0 or of a guard can be read, nor one of a free page under unmap.
+    /// byte of a page of blocks of size 0 or of a guard can be read, nor one of a free page under unmap.
     pub fn load(&mut self, who: Who, addr: Addr) -> Reply
         requires room { 1 ≤ self.old.spare }
         requires short { length self.old.journal.items < 2 ^ 32 - 1 }

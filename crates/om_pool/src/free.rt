@@ -1,10 +1,11 @@
 //! Free of an address, by what stands there.
 ghost use Rattle.std.specs.Prelude.{◌≡◌, ◌+◌, ◌-◌, ◌*◌, ◌%◌, ◌^◌, ◌<◌, ◌≤◌, ◌&&◌, ◌||◌, [], ◌∷◌, ◌++◌, None, length, IfSome, true, false, if◌then◌else◌};
 ghost use Rattle.om_broker.specs.Claims.{HasFrames};
+ghost use Rattle.om_delay.specs.Slots.{slot_count};
 ghost use Rattle.om_frame.specs.Frames.{zero_frames, AreHeld};
 ghost use Rattle.om_geom.specs.Addresses.{bit_of, page_at};
 ghost use Rattle.om_geom.specs.Numbers.{zone_pages};
-ghost use Rattle.om_model.specs.Pool.Free.{freed_again, slot_holds, told_broken};
+ghost use Rattle.om_model.specs.Pool.Free.{freed_again, told};
 ghost use Rattle.om_model.specs.Pool.Steps.{unchanged};
 ghost use Rattle.om_model.specs.declared.entry.Entry.TheVariants.{Call};
 ghost use Rattle.om_pool.specs.CoreKept.{core_state, view_of, IsBackedCore, IsCore, HasRoom};
@@ -15,12 +16,13 @@ ghost use Rattle.om_pool.specs.HoldingsView.{rules_in};
 ghost use Rattle.om_pool.specs.PoolView.{says_no_run, UsesBroker};
 ghost use Rattle.om_pool.specs.Unasked.{unasked_entry, IsQuiet};
 
-use crate::holdings::{page_at, slot_at, slot_holds};
+use crate::holdings::page_at;
 use crate::pool_core::Core;
 use crate::standing::Standing;
 use om_broker::Broker;
-use om_geom::{Class, Page};
-use om_model::{Block, Drawn, Fault, Move, Op, Place, Reply, SLOT_COUNT, Who};
+use om_delay::{Changed, SLOT_COUNT};
+use om_geom::{Class, Extent, Page};
+use om_model::{Block, Drawn, Fault, Move, Op, Place, Reply, Who};
 use std::sync::Wait;
 
 impl Core {
@@ -84,8 +86,7 @@ impl Core {
         ensures taken { Frees self.old self.new who address result }
     {
         let word = self.state.draw();
-        let slot = slot_at(&self.state.slots, word as usize % SLOT_COUNT);
-        let reply = reply_again(is_seen(self.state.opts.freecheck, slot, address));
+        let reply = reply_again(self.state.sees_again(slot_by(word), address));
         self.enter_free(who, address, reply, Drawn::one(word), None);
         reply
     }
@@ -112,29 +113,31 @@ impl Core {
     {
         let class = Class(place.class);
         match self.state.broken_canary(block, class, self.canary) {
-            Some(offset) => self.tell_broken(who, address, offset),
+            Some(offset) => self.tell(who, address, Fault::Canary { offset }),
             None => self.delay(rt, broker, who, address, place),
         }
     }
 
-    // A canary was changed. The word of the slot is drawn still.
-    fn tell_broken(&mut self, who: Who, address: u64, offset: u64) -> Reply
+    // A misuse was found. The word of the slot is drawn still.
+    fn tell(&mut self, who: Who, address: u64, fault: Fault) -> Reply
         requires kept { IsCore self.old }
         requires room { HasRoom self.old }
-        requires is { FreeIs self.old address (told_broken (core_state self.old) offset) }
+        requires known { says_no_run (Reply.Fault fault) ≡ false }
+        requires is { FreeIs self.old address (told (core_state self.old) fault) }
         ensures kept { IsCore self.new }
         ensures reply { says_no_run result ≡ false }
         ensures quiet { IsQuiet self.old self.new who (Op.Free address) result }
         ensures taken { Frees self.old self.new who address result }
     {
         let word = self.state.draw();
-        let reply = Reply::Fault(Fault::Canary { offset });
+        let reply = Reply::Fault(fault);
         self.enter_free(who, address, reply, Drawn::one(word), None);
         reply
     }
 
-    // A live place is put off: it enters the slot that a word chooses, and what the slot had is
-    // evicted.
+    // A live place, behind whose block no canary was changed, is put off: it enters the slot that a word
+    // chooses, and what the slot had is evicted. Where a waiting place was written, that is told, and
+    // nothing else is done.
     fn delay<R: Wait, B: Broker>(
         &mut self,
         rt: &R,
@@ -154,7 +157,13 @@ impl Core {
         ensures taken { Frees self.old self.new who address result }
     {
         let word = self.state.draw();
-        let before = self.state.delay(place, word as usize % SLOT_COUNT);
+        let slot = slot_by(word);
+        if let Some(Changed { addr, offset }) = self.state.written_late(slot) {
+            let reply = Reply::Fault(Fault::WriteAfterFree { addr, offset });
+            self.enter_free(who, address, reply, Drawn::one(word), None);
+            return reply;
+        }
+        let before = self.state.delay(place, slot);
         self.state.fill_freed(place);
         let release = self.evict(rt, broker, before);
         self.enter_free(who, address, Reply::Done, Drawn::one(word), release);
@@ -166,18 +175,18 @@ impl Core {
         &mut self,
         rt: &R,
         broker: &mut B,
-        before: Option<Place>,
+        before: Option<Extent>,
     ) -> Option<Move>
         requires place { IfSome before (IsThere self.old.state) }
-        requires has { IfSome before (λ place.
-            HasFrames (B.made broker.old) (zero_frames (page_at place.address) 1)) }
+        requires has { IfSome before (λ gone.
+            HasFrames (B.made broker.old) (zero_frames (page_at gone.first) 1)) }
         ensures { Evicts B.Broker self.old self.new broker.old broker.new before result }
     {
-        let place = before?;
-        if !self.state.set_free(place.address) {
+        let gone = before?;
+        if !self.state.set_free(gone.first) {
             return None;
         }
-        self.keep_or_release(rt, broker, Page(page_at(place.address) as u32), 1)
+        self.keep_or_release(rt, broker, Page(page_at(gone.first) as u32), 1)
     }
 
     // The pages of a page block become free, with its guard. Where they are surplus they are let go.
@@ -249,11 +258,12 @@ impl Core {
     }
 }
 
-// Whether a second free is seen.
-fn is_seen(freecheck: bool, slot: Option<Place>, address: u64) -> bool
-    ensures { result ≡ (freecheck || slot_holds slot address) }
+// The slot that a word chooses.
+fn slot_by(word: u32) -> u32
+    ensures slot { result ≡ word % slot_count }
+    ensures low { result < slot_count }
 {
-    freecheck || slot_holds(&slot, address)
+    word % SLOT_COUNT as u32
 }
 
 // What a second free of a delayed place is answered.

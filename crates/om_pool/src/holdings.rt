@@ -1,36 +1,36 @@
 //! What a pool holds: the tables that stand for its state, with the options and the source of its words.
-ghost use Rattle.std.specs.Prelude.{◌≡◌, ◌+◌, ◌*◌, ◌<◌, ◌≤◌, ◌^◌, true, IsTrue, IsSome, IfSome, length, replicate, Some, None, OnOk, IfOk, slice_index_or};
+ghost use Rattle.std.specs.Prelude.{◌≡◌, ◌+◌, ◌*◌, ◌<◌, ◌≤◌, ◌^◌, true, IsTrue, IsSome, IfSome, length, Some, None, OnOk, IfOk};
 ghost use Rattle.om_chunk.specs.Pages as chunks;
 ghost use Rattle.om_chunk.specs.Picks.{place_on, IsFreeOn};
+ghost use Rattle.om_delay.specs.Slots.{no_slots};
 ghost use Rattle.om_frame.specs.Frames.{zero_frames, AreHeld};
 ghost use Rattle.om_frame.specs.Memory.{no_pages};
 ghost use Rattle.om_geom.specs.Addresses.{page_at};
 ghost use Rattle.om_geom.specs.Classes.{is_class, places_of};
 ghost use Rattle.om_geom.specs.Numbers.{zone_pages, most_zones};
-ghost use Rattle.om_model.specs.Pool.Free.{slot_holds};
 ghost use Rattle.om_model.specs.Pool.Picks.{place_address};
 ghost use Rattle.om_model.specs.Pool.Rules.{word_at};
 ghost use Rattle.om_pages.specs.FreeRuns.{lowest_run};
-ghost use Rattle.om_model.specs.Pool.State.{slot_count};
 ghost use Rattle.om_pages.specs.Kinds.{is_absent, is_free, is_held};
 ghost use Rattle.om_pages.specs.Tables as table;
 ghost use Rattle.om_pool.specs.Asking.{one_page};
 ghost use Rattle.om_pool.specs.HoldingsView.{rules_in, tables_in, with_drawn, IsSameBut};
 ghost use Rattle.om_pool.specs.Malloc.{TakesRun};
 ghost use Rattle.om_pool.specs.PoolView.{rules_by};
-ghost use Rattle.om_pool.specs.TableSteps.{claimed_run, delayed_place, fresh_page, freed_place, freed_run, gone_run, is_surplus_by, live_place, page_goes, FreshPlace, IsTied, OwnPlace};
+ghost use Rattle.om_pool.specs.TableSteps.{claimed_run, fresh_page, freed_place, freed_run, gone_run, is_surplus_by, live_place, page_goes, FreshPlace, IsTied, OwnPlace};
 
 use om_chunk::{ChunkPages, Picked};
+use om_delay::Slots;
 use om_frame::{Bundle, Shelf};
 use om_geom::{Addr, Class, FIRST_ADDRESS, PAGE_SIZE, Page, addr_of, stride};
-use om_model::{Place, SLOT_COUNT};
 use om_opts::Opts;
 use om_pages::PageTable;
 use om_words::Words;
 use std::alloc::{AllocError, Global};
 
 /// The rules and the tables of a pool. The page table says what each page is, the chunk pages what each
-/// of their places has, and the shelf has the bytes of the held pages; a slot has a delayed place or nothing.
+/// of their places has, and the shelf has the bytes of the held pages; a slot has the bytes of a
+/// delayed place, or nothing.
 #[derive(Drop)]
 pub(crate) struct Holdings {
     pub(crate) opts: Opts,
@@ -38,7 +38,7 @@ pub(crate) struct Holdings {
     pub(crate) words: Words,
     pub(crate) pages: PageTable,
     pub(crate) chunks: ChunkPages,
-    pub(crate) slots: [Option<Place>; SLOT_COUNT],
+    pub(crate) slots: Slots,
     pub(crate) shelf: Shelf,
 }
 
@@ -56,7 +56,7 @@ impl Holdings {
         ensures zones { IfOk result (λ own. own.zones ≡ zones) }
         ensures pages { IfOk result (λ own. own.pages ≡ table.no_pages zones) }
         ensures chunks { IfOk result (λ own. own.chunks.pages ≡ chunks.no_pages zones) }
-        ensures slots { IfOk result (λ own. own.slots ≡ replicate slot_count None) }
+        ensures slots { IfOk result (λ own. own.slots ≡ no_slots) }
         ensures drawn { IfOk result (λ own. own.words.place ≡ words.place) }
         ensures memory { IfOk result (λ own. own.shelf ≡ no_pages zones) }
     {
@@ -66,7 +66,7 @@ impl Holdings {
             words,
             pages: PageTable::new(alloc, zones)?,
             chunks: ChunkPages::new(alloc, zones)?,
-            slots: [None; SLOT_COUNT],
+            slots: Slots::new(),
             shelf: Shelf::new(alloc, zones)?,
         })
     }
@@ -234,20 +234,6 @@ impl Holdings {
         address
     }
 
-    /// A live place waits in the slot, and what the slot had is given back.
-    pub(crate) fn delay(&mut self, place: Place, slot: usize) -> Option<Place>
-        requires slot { slot < slot_count }
-        requires place { IsSome (chunks.place_in self.old.chunks.pages place.address) }
-        ensures before { result ≡ slice_index_or self.old.slots slot None }
-        ensures tables { tables_in self.new ≡ delayed_place (tables_in self.old) slot place }
-        ensures same { IsSameBut self.old self.new }
-    {
-        let before = slot_at(&self.slots, slot);
-        self.slots[slot] = Some(place);
-        self.chunks.set_delayed(Addr(place.address));
-        before
-    }
-
     /// Makes a place free, and its page where it was the last one there. Whether it was.
     pub(crate) fn set_free(&mut self, address: u64) -> bool
         requires place { IsSome (chunks.place_in self.old.chunks.pages address) }
@@ -301,22 +287,4 @@ pub(crate) fn page_at(address: u64) -> u64
     ensures { result ≡ page_at address }
 {
     address.saturating_sub(FIRST_ADDRESS) / u64::from(PAGE_SIZE)
-}
-
-/// What a slot has.
-pub(crate) fn slot_at(slots: &[Option<Place>], slot: usize) -> Option<Place>
-    requires { slot < length slots.now }
-    ensures { result ≡ slice_index_or slots.now slot None }
-{
-    slots[slot]
-}
-
-/// Whether the slot has the place that begins at the address.
-pub(crate) fn slot_holds(slot: &Option<Place>, address: u64) -> bool
-    ensures { result ≡ slot_holds slot.now address }
-{
-    match slot {
-        Some(place) => place.address == address,
-        None => false,
-    }
 }

@@ -4,20 +4,18 @@ ghost use Rattle.om_geom.specs.Addresses.{address_of};
 ghost use Rattle.om_geom.specs.Classes.{is_class};
 ghost use Rattle.om_geom.specs.Numbers.{most_zones, page_size, zone_pages};
 ghost use Rattle.om_frame.specs.Memory.{is_held_at, IsHeldPart};
-ghost use Rattle.om_model.specs.Pool.Junk.{extent_of_place, freed_len};
+ghost use Rattle.om_model.specs.Pool.Junk.{extent_of_place, fills_freed, freed_len};
 ghost use Rattle.om_pool.specs.Chunks.{HoldsPlace};
 ghost use Rattle.om_pool.specs.HoldingsView.{rules_in, tables_in, IsSameBut};
 ghost use Rattle.om_pool.specs.TableSteps.{filled_by, freed_filled, freed_pages_filled, fresh_filled};
 
 use crate::holdings::Holdings;
+use om_delay::FREED_BYTE;
 use om_geom::{Addr, Class, PAGE_SIZE, Page, addr_of, stride};
 use om_model::Place;
 
 /// What an allocated block is filled with.
 const FRESH_BYTE: u8 = 0xdb;
-
-/// What a freed block is filled with.
-const FREED_BYTE: u8 = 0xdf;
 
 /// So many bytes of a freed page block are filled at junk level 1.
 const FREED_FRONT: u32 = 2048;
@@ -37,6 +35,13 @@ impl Holdings {
         }
     }
 
+    /// Whether a freed place is filled: at junk levels 1 and 2.
+    pub(crate) fn fills_freed(&self) -> bool
+        ensures { result ≡ fills_freed (rules_in self.now) }
+    {
+        self.opts.junk == 1 || self.opts.junk == 2
+    }
+
     /// Fills a freed place, at junk levels 1 and 2.
     pub(crate) fn fill_freed(&mut self, place: Place)
         requires class { IsTrue (is_class place.class) }
@@ -45,7 +50,7 @@ impl Holdings {
             ≡ freed_filled (rules_in self.old) place (tables_in self.old) }
         ensures same { IsSameBut self.old self.new }
     {
-        if self.opts.junk == 1 || self.opts.junk == 2 {
+        if self.fills_freed() {
             self.fill(Addr(place.address), stride(Class(place.class)), FREED_BYTE);
         }
     }

@@ -9,6 +9,7 @@ mod holdings;
 mod junk;
 mod malloc;
 mod pool_core;
+mod slots;
 mod standing;
 
 pub use calls::{NoPool, Pool};

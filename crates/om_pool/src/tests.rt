@@ -4,6 +4,7 @@ mod blocks;
 mod canaries;
 mod judges;
 mod lawful;
+mod slots;
 mod trial;
 
 use super::*;

@@ -1,6 +1,7 @@
 -- A written run, and the answers of the parts of the program as answers of the whole.
 use Rattle.std.proofs.Common.{◌≡◌, ℕ, zero, suc, ◌<◌, ◌≤◌, inl, inr, Bool, true, false, ◌||◌, Option, Some, None, IfSome, IsSome, Result, Ok, Err, List, [], ◌∷◌, ◌++◌, length, refl, sym, subst, ◌∙◌, ap, arith, append-nil}
 use Rattle.std.specs.List.{slice_get, slice_index_or, list_any}
+use Rattle.std.proofs.lemmas.Option.{none-some, same_Some}
 use Rattle.om_broker.specs.Lone.{Lone}
 use Rattle.om_io.specs.Sink.{Writes}
 use Rattle.om_io.specs.Source.{input_limit}
@@ -48,14 +49,8 @@ one_script : (script : ScriptText) (told : Told) (entries : List Entry) → IsSc
 one_script script told entries run zero s t at_script at_told =
     let P : ScriptText → Type 0 = λ x. IsScriptRun 1 0 (length x.names) x.commands (entries ∷ []) told.outcomes in
     let Q : Told → Type 0 = λ x. IsScriptRun 1 0 (length s.names) s.commands (entries ∷ []) x.outcomes in
-    subst Q (some_same at_told) (subst P (some_same at_script) run)
-  where
-    some_same : {X : Type 0} {x y : X} → Some x ≡ Some y → x ≡ y
-    some_same e = cc
-one_script script told entries run (suc caller) s t at_script at_told = absurd (none_some at_script)
-  where
-    none_some : {X : Type 0} {x : X} → None ≡ Some x → ⊥
-    none_some e = cc
+    subst Q (same_Some _ _ at_told) (subst P (same_Some _ _ at_script) run)
+one_script script told entries run (suc caller) s t at_script at_told = absurd (none-some s at_script)
 
 -- wherever the journal is cut off, what is in use is apart
 apart-alone : (head : Head) (entries : List Entry) → IsLawful (rules_of head 0) entries → (pool : ℕ) (before rest : List Entry) → pool < 1 →

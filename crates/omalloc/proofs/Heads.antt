@@ -3,6 +3,7 @@ use Rattle.std.proofs.Common.{◌≡◌, refl, subst, sym, ap, Bool, true, false
 use Rattle.std.specs.List.{slice_split}
 use Rattle.std.specs.Option.{option_map, option_and_then}
 use Rattle.std.proofs.lemmas.Bool.{leb-true}
+use Rattle.std.proofs.lemmas.Option.{same_Some}
 use Rattle.std.proofs.lemmas.List.Splits.{length-slice_split}
 use Rattle.om_geom.specs.Numbers.{most_zones}
 use Rattle.om_opts.specs.Letters.{opt_of}
@@ -15,26 +16,23 @@ use Rattle.omalloc.specs.Arguments.{RunArguments, most_digits, short_number_to, 
 use Rattle.omalloc.specs.Heads.{IsHead}
 use Rattle.omalloc.proofs.AcceptedInput.{number_small}
 
-some_is : {A : Type 0} {x y : A} → Some x ≡ Some y → x ≡ y
-some_is e = cc
-
 -- as many numbers as parts
 numbers_long : (parts : List (List ℕ)) (numbers : List ℕ) → numbers_of parts ≡ Some numbers → length numbers ≡ length parts
-numbers_long [] numbers e = ap length (sym (some_is e))
+numbers_long [] numbers e = ap length (sym (same_Some _ _ e))
 numbers_long (part ∷ parts) numbers e = by (short_number_to greatest_word part) (numbers_of parts) (numbers_long parts) e
   where
     by : (first : Option ℕ) (rest : Option (List ℕ)) → ((ns : List ℕ) → rest ≡ Some ns → length ns ≡ length parts) →
         option_and_then (λ number. option_map (λ ns. number ∷ ns) rest) first ≡ Some numbers → length numbers ≡ length (part ∷ parts)
-    by (Some number) (Some ns) long e = let same : number ∷ ns ≡ numbers = some_is e in omega (arith, ap length same, long ns refl)
+    by (Some number) (Some ns) long e = let same : number ∷ ns ≡ numbers = same_Some _ _ e in omega (arith, ap length same, long ns refl)
     by (Some number) None long e = cc
     by None rest long e = cc
 
 seeded_has : (seed : Option ℕ) (plan : WordPlan) → option_map Seeded seed ≡ Some plan → HasWords plan
-seeded_has (Some seed) plan e = subst HasWords (some_is e) tt
+seeded_has (Some seed) plan e = subst HasWords (same_Some _ _ e) tt
 seeded_has None plan e = cc
 
 listed_has : (numbers : Option (List ℕ)) (plan : WordPlan) → ((ns : List ℕ) → numbers ≡ Some ns → 0 < length ns) → option_map Listed numbers ≡ Some plan → HasWords plan
-listed_has (Some ns) plan some e = subst HasWords (some_is e) (some ns refl)
+listed_has (Some ns) plan some e = subst HasWords (same_Some _ _ e) (some ns refl)
 listed_has None plan some e = cc
 
 value_has : (value ns : List ℕ) → numbers_of (slice_split (λ b. b == 44) value) ≡ Some ns → 0 < length ns
@@ -47,7 +45,7 @@ option_has false true value plan e = listed_has (numbers_of (slice_split (λ b. 
 option_has false false value plan e = cc
 
 plan_has : (arguments : List (List ℕ)) (plan : WordPlan) → plan_from arguments ≡ Some plan → HasWords plan
-plan_has [] plan e = subst HasWords (some_is e) tt
+plan_has [] plan e = subst HasWords (same_Some _ _ e) tt
 plan_has (option ∷ []) plan e = cc
 plan_has (option ∷ value ∷ []) plan e = option_has (bytes_eq option (codes "-s")) (bytes_eq option (codes "-w")) value plan e
 plan_has (option ∷ value ∷ more ∷ arguments) plan e = cc
@@ -60,7 +58,7 @@ zones_fit : (value : List ℕ) (zones : ℕ) → zones_of value ≡ Some zones �
 zones_fit value zones e = by (nat_le (length value) most_digits) (number_to most_zones value) (λ n. number_small most_zones value n) e
   where
     above : (n : ℕ) → n ≤ most_zones → (some : Bool) → some ≡ nat_le 1 n → cond some (Some n) None ≡ Some zones → (1 ≤ zones) × (zones ≤ most_zones)
-    above n small true some e = subst (λ z. (1 ≤ z) × (z ≤ most_zones)) (some_is e) (leb-true 1 n (sym some), small)
+    above n small true some e = subst (λ z. (1 ≤ z) × (z ≤ most_zones)) (same_Some _ _ e) (leb-true 1 n (sym some), small)
     above n small false some e = cc
 
     found : (number : Option ℕ) → ((n : ℕ) → number ≡ Some n → n ≤ most_zones) →
@@ -77,7 +75,7 @@ planned : (zones : ℕ) (arguments : List (List ℕ)) (said : ℕ × WordPlan) �
 planned zones arguments said some few e = by (plan_from arguments) (plan_has arguments) e
   where
     by : (plan : Option WordPlan) → ((p : WordPlan) → plan ≡ Some p → HasWords p) → option_map (λ p. (zones, p)) plan ≡ Some said → IsArena said
-    by (Some plan) has e = subst IsArena (some_is e) (some, few, has plan refl)
+    by (Some plan) has e = subst IsArena (same_Some _ _ e) (some, few, has plan refl)
     by None has e = cc
 
 all_zones : (arguments : List (List ℕ)) (said : ℕ × WordPlan) → with_zones most_zones arguments ≡ Some said → IsArena said
@@ -103,7 +101,7 @@ letters_have letters arguments run e = by (zones_from arguments) (zones_have arg
   where
     by : (said : Option (ℕ × WordPlan)) → ((s : ℕ × WordPlan) → said ≡ Some s → IsArena s) →
         option_map (λ s. record { letters = letters; zones = s.0; plan = s.1 }) said ≡ Some run → IsSaid run
-    by (Some said) has e = subst IsSaid (some_is e) (has said refl)
+    by (Some said) has e = subst IsSaid (same_Some _ _ e) (has said refl)
     by None has e = cc
 
 options_have : (is_letters value_is : Bool) (value : List ℕ) (arguments all : List (List ℕ)) (run : RunArguments) →
@@ -126,7 +124,7 @@ run_has (command ∷ arguments) run e = by (bytes_eq command (codes "run")) e
     by false e = cc
 
 head_has : (run : RunArguments) (built : Bool) (head : Head) → IsSaid run → cond built (Some (head_of run)) None ≡ Some head → IsHead head
-head_has run true head has e = subst IsHead (some_is e) (record { some_zone = has.0; few_zones = has.1; pools = refl; words = has.2 })
+head_has run true head has e = subst IsHead (same_Some _ _ e) (record { some_zone = has.0; few_zones = has.1; pools = refl; words = has.2 })
 head_has run false head has e = cc
 
 -- the head of accepted arguments has its form

@@ -40,8 +40,8 @@ fn write_entries<K: Sink>(out: &mut BufferedSink<'_, K>, journal: &Journal) -> R
     ensures { Adds K.written K.faults out.old out.new
         (flat_map entry_line journal.now.items) result }
 {
-    for i in 0..journal.len() {
-        write_entry(out, journal.entry(i))?;
+    for entry in journal.as_slice() {
+        write_entry(out, entry)?;
     }
     Ok(())
 }
@@ -53,8 +53,8 @@ fn write_outcomes<K: Sink>(
     ensures { Adds K.written K.faults out.old out.new
         (flat_map numbered_line (enumerate_from 1 transcript.now)) result }
 {
-    for i in 0..transcript.len() {
-        write_outcome(out, i + 1, *transcript.outcome(i))?;
+    for (i, outcome) in transcript.as_slice().iter().enumerate() {
+        write_outcome(out, i as u32 + 1, *outcome)?;
     }
     Ok(())
 }

@@ -5,6 +5,7 @@ ghost use Rattle.std.specs.Prelude.{◌≤◌};
 mod blocks;
 mod cache;
 mod canaries;
+mod delays;
 mod heads;
 mod limits;
 mod model;

@@ -1,22 +1,28 @@
--- Free of an address, by what stands there: a miss where the page isn't held; bogus on a free page, on a guard and
--- inside a page block; a modified pointer where no place begins; already free where the place is free. A delayed
--- place is freed again. Of a live place with a broken canary that is told, and nothing changes but the word drawn. Any other is put off: it enters the slot that a word chooses, and what the slot had is
--- evicted. The pages of a page block become free. A freed block is filled by the junk level. A run of pages that becomes free
--- stays with the pool, or is let go where it is surplus.
+-- Free of an address, by what stands there. Not held: a miss. A free page, a guard, or a page block elsewhere than at
+-- its first byte: bogus. No place begins there: a modified pointer. A free place: already free. So far no word is drawn.
+-- For a delayed or a live place one is, and it chooses a slot. A delayed place is a double free under freecheck, or where
+-- that slot holds it, and else the free is done; only the word is spent. For a live place a broken canary, and else a
+-- write after free, is the fault; only the word is spent. Otherwise the place is put off: it enters the slot and is
+-- filled, and what the slot had becomes free. A page block is filled, and its pages become free with the guard. A run
+-- that becomes free stays, or is let go where the pool then has more free pages than its cache bound.
 use Rattle.std.specs.Prelude.{ℕ, ◌%◌, Bool, false, not, ◌||◌, ◌==◌, nat_le, length, filter, Option, Some, None, slice_index_or, slice_set, if◌then◌else◌}
+use Rattle.om_delay.specs.Slots.{slot_count}
+use Rattle.om_delay.specs.declared.check.Changed.{Changed}
 use Rattle.om_geom.specs.Addresses.{page_at}
 use Rattle.om_model.specs.Pool.Rules.{Rules, word_at, block_pages}
 use Rattle.om_model.specs.Pool.Runs.{Run}
-use Rattle.om_model.specs.Pool.State.{State, slot_count, drawn_more, without_pages}
+use Rattle.om_model.specs.Pool.State.{State, drawn_more, without_pages}
 use Rattle.om_model.specs.Pool.Canaries.{broken_canary}
 use Rattle.om_model.specs.Pool.InUse.{uses, is_free_page, free_pages}
 use Rattle.om_model.specs.Pool.Junk.{with_freed_place, with_freed_pages}
 use Rattle.om_model.specs.Pool.Steps.{Step, unchanged}
+use Rattle.om_model.specs.Pool.WriteAfterFree.{written_late}
 use Rattle.om_model.specs.Pool.Standing.{Standing, NotHeld, FreePage, PageBlock, InPageBlock, OnGuard, LivePlace, DelayedPlace, FreePlace, Unaligned, standing}
 use Rattle.om_model.specs.declared.block.Block.{Block}
 use Rattle.om_model.specs.declared.block.Place.{Place}
-use Rattle.om_model.specs.declared.reply.Reply.TheVariants.{Done, Miss, Fault}
-use Rattle.om_model.specs.declared.reply.Fault.TheVariants.{DoubleFree, AlreadyFree, Bogus, ModifiedPointer, Canary}
+use Rattle.om_model.specs.declared.reply.Fault.{Fault}
+use Rattle.om_model.specs.declared.reply.Fault.TheVariants.{DoubleFree, AlreadyFree, Bogus, ModifiedPointer, Canary, WriteAfterFree}
+use Rattle.om_model.specs.declared.reply.Reply.TheVariants as reply
 
 -- a state after pages became free, and the run that was let go
 pub record Freed : Type 0 where
@@ -44,10 +50,11 @@ evicted rules state (Some place) =
 abbrev pub without_block : State → ℕ → State
 without_block state address = record state { live = filter (λ block. not (block.address == address)) state.live }
 
--- the slot that the next word chooses, and what it has
+-- the slot that the next word chooses
 abbrev pub drawn_slot : Rules → State → ℕ
 drawn_slot rules state = word_at rules state.drawn % slot_count
 
+-- what a slot has
 abbrev pub slot_of : State → ℕ → Option Place
 slot_of state slot = slice_index_or state.slots slot None
 
@@ -61,7 +68,7 @@ put_off rules state slot place = with_freed_place rules place (into_slot state s
 
 -- done, by so many words
 abbrev pub done_with : ℕ → Freed → Step
-done_with words left = record { reply = Done; words = words; release = left.release; next = left.next }
+done_with words left = record { reply = reply.Done; words = words; release = left.release; next = left.next }
 
 -- a place is put off to the slot, and what this had is evicted
 abbrev pub moved_to_slot : Rules → State → ℕ → Place → Freed
@@ -75,21 +82,31 @@ abbrev pub slot_holds : Option Place → ℕ → Bool
 slot_holds None address = false
 slot_holds (Some place) address = place.address == address
 
--- A delayed place is freed again. Without freecheck this is seen only where the drawn slot holds it.
+-- A delayed place is freed again. Without freecheck this is seen only where the drawn slot holds it, and else the free is
+-- done; the word is spent, and nothing else changes.
 unfoldable pub freed_again : Rules → State → ℕ → Step
 freed_again rules state address = record {
-  reply = if rules.options.freecheck || slot_holds (slot_of state (drawn_slot rules state)) address then Fault DoubleFree else Done;
+  reply = if rules.options.freecheck || slot_holds (slot_of state (drawn_slot rules state)) address then reply.Fault DoubleFree else reply.Done;
   words = 1;
   release = None;
   next = drawn_more 1 state;
 }
 
--- a broken canary is told; nothing changes but that the slot's word is drawn
-abbrev pub told_broken : State → ℕ → Step
-told_broken state offset = record { reply = Fault (Canary offset); words = 1; release = None; next = drawn_more 1 state }
+-- the misuse that the free of a live place tells: a broken canary, and where there is none a write after free
+abbrev pub first_misuse : Option ℕ → Option Changed → Option Fault
+first_misuse (Some offset) changed = Some (Canary offset)
+first_misuse None (Some changed) = Some (WriteAfterFree changed.addr changed.offset)
+first_misuse None None = None
 
-abbrev pub delay_unless : Option ℕ → Rules → State → Place → Step
-delay_unless (Some offset) rules state place = told_broken state offset
+abbrev pub misuse : Rules → State → Block → Option Fault
+misuse rules state block = first_misuse (broken_canary rules state block) (written_late rules state (drawn_slot rules state))
+
+-- it is told; nothing changes but that the slot's word is drawn
+abbrev pub told : State → Fault → Step
+told state fault = record { reply = reply.Fault fault; words = 1; release = None; next = drawn_more 1 state }
+
+abbrev pub delay_unless : Option Fault → Rules → State → Place → Step
+delay_unless (Some fault) rules state place = told state fault
 delay_unless None rules state place = delay rules state place
 
 -- a page block leaves the live blocks, and its bytes are filled: its pages with the guard are a run that becomes free
@@ -99,15 +116,15 @@ without_page_block rules state block =
     (record { first = page_at block.address; count = block_pages rules block.size })
 
 abbrev pub free_at : Rules → State → ℕ → Standing → Step
-free_at rules state address NotHeld = unchanged state Miss
+free_at rules state address NotHeld = unchanged state reply.Miss
 free_at rules state address (PageBlock block) = done_with 0 (without_page_block rules state block)
-free_at rules state address FreePage = unchanged state (Fault Bogus)
-free_at rules state address InPageBlock = unchanged state (Fault Bogus)
-free_at rules state address OnGuard = unchanged state (Fault Bogus)
-free_at rules state address Unaligned = unchanged state (Fault ModifiedPointer)
-free_at rules state address FreePlace = unchanged state (Fault AlreadyFree)
+free_at rules state address FreePage = unchanged state (reply.Fault Bogus)
+free_at rules state address InPageBlock = unchanged state (reply.Fault Bogus)
+free_at rules state address OnGuard = unchanged state (reply.Fault Bogus)
+free_at rules state address Unaligned = unchanged state (reply.Fault ModifiedPointer)
+free_at rules state address FreePlace = unchanged state (reply.Fault AlreadyFree)
 free_at rules state address (DelayedPlace place) = freed_again rules state address
-free_at rules state address (LivePlace place block) = delay_unless (broken_canary rules state block) rules state place
+free_at rules state address (LivePlace place block) = delay_unless (misuse rules state block) rules state place
 
 abbrev pub free : Rules → State → ℕ → Step
 free rules state address = free_at rules state address (standing rules state address)

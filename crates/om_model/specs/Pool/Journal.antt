@@ -40,8 +40,9 @@ step_of rules state op answers = None
 
 -- ---- what the zones may answer
 
-abbrev pub NamesSearched : Rules → ℕ → List Look → Type 0
-NamesSearched rules word looks = map (λ look. look.zone) looks ≡ map (searched_zone rules.zones word) (range_with_len 0 (length looks))
+-- of so many zones, the looks name those that a search by the word comes to first, in their order
+abbrev pub NamesSearched : ℕ → ℕ → List Look → Type 0
+NamesSearched zones word looks = map (λ look. look.zone) looks ≡ map (searched_zone zones word) (range_with_len 0 (length looks))
 
 -- the claim lies in its zone, on pages that the pool doesn't hold
 pub record IsFresh (state : State) (move : Move) : Type 0 where
@@ -74,7 +75,7 @@ AnswersAt state run answers (Some look) Otherwise = (look.zone ≡ zone_of run.f
 abbrev pub MayAnswer : Rules → State → Wish → Answers → Type 0
 MayAnswer rules state Nothing answers = (answers.claim ≡ None) × (answers.looks ≡ []) × (answers.taken ≡ None)
 MayAnswer rules state (Search count word) answers =
-    NamesSearched rules word answers.looks × EndsSearch rules state count word (length answers.looks) answers.claim × (answers.taken ≡ None)
+    NamesSearched rules.zones word answers.looks × EndsSearch rules state count word (length answers.looks) answers.claim × (answers.taken ≡ None)
 MayAnswer rules state (At run otherwise) answers =
     AnswersAt state run answers answers.taken (MayAnswer rules state otherwise (record answers { taken = None }))
 

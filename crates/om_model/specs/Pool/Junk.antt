@@ -1,7 +1,8 @@
 -- Junk: bytes that tell a reader of fresh or freed memory what it is. At level 2 a block is filled when it is
 -- allocated: its whole place, that of a block of size 0 too, or all its data pages. When it is freed, a place is filled
 -- whole at level 1 and at level 2; of a page block level 1 fills the first 2048 bytes, and level 2 all data pages.
-use Rattle.std.specs.Prelude.{ℕ, ◌*◌, ◌==◌, ◌||◌, if◌then◌else◌, Option, Some, None}
+use Rattle.std.specs.Prelude.{ℕ, ◌*◌, Bool, ◌==◌, ◌||◌, if◌then◌else◌, Option, Some, None}
+use Rattle.om_delay.specs.Changes.{freed_byte}
 use Rattle.om_geom.specs.Classes.{data_pages}
 use Rattle.om_geom.specs.Numbers.{page_size}
 use Rattle.om_geom.specs.declared.address.Extent.{Extent}
@@ -11,13 +12,13 @@ use Rattle.om_model.specs.Pool.State.{State, filled_with}
 use Rattle.om_model.specs.declared.block.Block.{Block}
 use Rattle.om_model.specs.declared.block.Place.{Place}
 
--- 0xdb
+-- fresh memory is filled with 0xdb
 abbrev pub fresh_byte : ℕ
 fresh_byte = 219
 
--- 0xdf
-abbrev pub freed_byte : ℕ
-freed_byte = 223
+-- whether a freed place is filled
+abbrev pub fills_freed : Rules → Bool
+fills_freed rules = rules.options.junk == 1 || rules.options.junk == 2
 
 abbrev pub extent_of_place : Place → Extent
 extent_of_place place = (use_of_place place).extent
@@ -35,7 +36,7 @@ with_fresh_junk rules block state = if rules.options.junk == 2 then filled_with 
 
 unfoldable pub with_freed_place : Rules → Place → State → State
 with_freed_place rules place state =
-    if rules.options.junk == 1 || rules.options.junk == 2 then filled_with freed_byte (extent_of_place place) state else state
+    if fills_freed rules then filled_with freed_byte (extent_of_place place) state else state
 
 -- so many bytes of a freed page block are filled at level 1
 abbrev pub freed_front : ℕ

@@ -2,6 +2,7 @@
 -- delayed place or nothing; how many random words it has drawn; and memory, which has the bytes of each held page.
 use Rattle.std.specs.Prelude.{ℕ, ◌+◌, Bool, ◌&&◌, not, nat_eq, nat_le, nat_lt, List, [], ◌++◌, Option, None, filter, replicate}
 use Rattle.std.specs.List.{filter_map, list_any, range_with_len}
+use Rattle.om_delay.specs.Slots.{slot_count}
 use Rattle.om_frame.specs.Frames as frames
 use Rattle.om_frame.specs.Memory.{no_pages, filled, with_byte}
 use Rattle.om_geom.specs.Addresses.{is_in_arena, page_at}
@@ -10,9 +11,6 @@ use Rattle.om_model.specs.Pool.Rules.{Rules}
 use Rattle.om_model.specs.Pool.Runs.{Run, is_page_of}
 use Rattle.om_model.specs.declared.block.Block.{Block}
 use Rattle.om_model.specs.declared.block.Place.{Place}
-
-abbrev pub slot_count : ℕ
-slot_count = 16
 
 pub record State : Type 0 where
   pub held : List ℕ

@@ -36,8 +36,12 @@ abbrev pub unchanged : State → Reply → Step
 unchanged state answer = record { reply = answer; words = 0; release = None; next = state }
 
 -- a null, or where the option says so the fault in its place
+abbrev pub null_or_fault_by : Bool → Why → Reply
+null_or_fault_by xmalloc why = if xmalloc then reply.Fault (OutOfMemory why) else reply.Null why
+
+-- the same by the rules
 abbrev pub null_or_fault : Rules → Why → Reply
-null_or_fault rules why = if rules.options.xmalloc then reply.Fault (OutOfMemory why) else reply.Null why
+null_or_fault rules why = null_or_fault_by rules.options.xmalloc why
 
 -- whether what was asked is denied: by a null or a fault
 abbrev pub is_denied : Reply → Bool

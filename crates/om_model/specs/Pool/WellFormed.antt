@@ -5,13 +5,14 @@
 -- others. There are 16 slots, delayed places are of classes, and no live block is too large.
 use Rattle.std.specs.Prelude.{◌≡◌, ℕ, ◌+◌, ◌*◌, ◌<◌, ◌≤◌, true, false, List, [], ◌∷◌, length, IsTrue, if◌then◌else◌}
 use Rattle.std.specs.List.{AllByRecursion}
+use Rattle.om_delay.specs.Slots.{slot_count}
 use Rattle.om_frame.specs.Memory.{page_bytes}
 use Rattle.om_geom.specs.Addresses.{Covers, SharesByte, address_of, bit_of, page_at}
 use Rattle.om_geom.specs.Classes.{is_class}
 use Rattle.om_geom.specs.Numbers.{page_size, zone_pages}
 use Rattle.om_model.specs.Pool.Malloc.{is_too_large, pages_for}
 use Rattle.om_model.specs.Pool.Rules.{Rules}
-use Rattle.om_model.specs.Pool.State.{State, slot_count, delayed, holds, is_held}
+use Rattle.om_model.specs.Pool.State.{State, delayed, holds, is_held}
 use Rattle.om_model.specs.Pool.InUse.{Kind, Chunk, Use, uses, touches}
 use Rattle.om_model.specs.Pool.Picks.{starts_place}
 use Rattle.om_model.specs.declared.block.Block.{Block}

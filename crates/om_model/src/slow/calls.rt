@@ -154,8 +154,8 @@ fn seen_in(alloc: Global, caller: u32, journal: &Journal) -> Result<Vec<Asked>, 
 {
     let mut seen = Vec::new(alloc);
     let mut phase = 0;
-    for i in 0..journal.len() {
-        phase = push_entry(&mut seen, caller, phase, journal.entry(i))?;
+    for entry in journal.as_slice() {
+        phase = push_entry(&mut seen, caller, phase, entry)?;
     }
     Ok(seen)
 }

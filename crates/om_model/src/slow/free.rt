@@ -1,9 +1,9 @@
 //! The step of a free, by what stands at the address.
 ghost use Rattle.std.specs.Prelude.{◌≡◌, ◌^◌, ◌<◌, IfOk};
+ghost use Rattle.om_delay.specs.Slots.{slot_count};
 ghost use Rattle.om_words.specs.PlannedWords.{HasWords};
 ghost use Rattle.om_model.specs.Output.Head.{rules_of};
-ghost use Rattle.om_model.specs.Pool.Free.{is_surplus, kept_or_let_go, evicted, without_block, drawn_slot, slot_of, into_slot, put_off, moved_to_slot, done_with, delay, delay_unless, told_broken, slot_holds, freed_again, without_page_block, free_at, free};
-ghost use Rattle.om_model.specs.Pool.State.{slot_count};
+ghost use Rattle.om_model.specs.Pool.Free.{is_surplus, kept_or_let_go, evicted, without_block, drawn_slot, slot_of, into_slot, put_off, moved_to_slot, done_with, delay, delay_unless, first_misuse, misuse, told, slot_holds, freed_again, without_page_block, free_at, free};
 ghost use Rattle.om_model.specs.Slow.{run_in, standing_in};
 
 use super::canaries::broken_canary;
@@ -13,9 +13,11 @@ use super::rules::{block_pages, word_at};
 use super::standing::{Standing, stands_at};
 use super::state::{State, page_at};
 use super::steps::{Run, Step, unchanged};
-use crate::block::{Block, Place, SLOT_COUNT};
+use super::write_after_free::written_late;
+use crate::block::{Block, Place};
 use crate::content::Head;
 use crate::reply::{Fault, Reply};
+use om_delay::{Changed, SLOT_COUNT};
 use std::alloc::AllocError;
 use std::marker::Model;
 
@@ -176,15 +178,37 @@ fn delay(head: &Head, pool: u32, state: &State, place: Place) -> Result<Step, Al
     Ok(done_with(1, left))
 }
 
-// A broken canary is told; nothing changes but that the slot's word is drawn.
-fn told_broken(state: &State, offset: u64) -> Result<Step, AllocError>
+// A broken canary, and where there is none a write after free.
+fn first_misuse(broken: Option<u64>, changed: Option<Changed>) -> Option<Fault>
+    ensures { result ≡ first_misuse broken changed }
+{
+    match (broken, changed) {
+        (Some(offset), _) => Some(Fault::Canary { offset }),
+        (None, Some(Changed { addr, offset })) => Some(Fault::WriteAfterFree { addr, offset }),
+        (None, None) => None,
+    }
+}
+
+// The misuse that the free of a live place tells.
+fn misuse(head: &Head, pool: u32, state: &State, block: Block) -> Result<Option<Fault>, AllocError>
+    requires words { HasWords head.now.plan }
+    requires few { state.now.drawn < 2 ^ 63 }
+    ensures { IfOk result (λ found. found ≡ misuse (rules_of head.now pool) state.now block) }
+{
+    let broken = broken_canary(head, pool, state, block)?;
+    let changed = written_late(head, pool, state, drawn_slot(head, pool, state))?;
+    Ok(first_misuse(broken, changed))
+}
+
+// It is told; nothing changes but that the slot's word is drawn.
+fn told(state: &State, fault: Fault) -> Result<Step, AllocError>
     requires { state.now.drawn < 2 ^ 63 }
-    ensures { IfOk result (λ step. step ≡ told_broken state.now offset) }
+    ensures { IfOk result (λ step. step ≡ told state.now fault) }
 {
     let mut next = state.copy()?;
     next.drawn += 1;
     Ok(Step {
-        reply: Reply::Fault(Fault::Canary { offset }),
+        reply: Reply::Fault(fault),
         words: 1,
         release: None,
         next,
@@ -194,17 +218,17 @@ fn told_broken(state: &State, offset: u64) -> Result<Step, AllocError>
 fn delay_unless(
     head: &Head,
     pool: u32,
-    broken: Option<u64>,
+    found: Option<Fault>,
     state: &State,
     place: Place,
 ) -> Result<Step, AllocError>
     requires words { HasWords head.now.plan }
     requires few { state.now.drawn < 2 ^ 63 }
     ensures { IfOk result (λ step. step ≡
-        delay_unless broken (rules_of head.now pool) state.now place) }
+        delay_unless found (rules_of head.now pool) state.now place) }
 {
-    match broken {
-        Some(offset) => told_broken(state, offset),
+    match found {
+        Some(fault) => told(state, fault),
         None => delay(head, pool, state, place),
     }
 }
@@ -286,8 +310,8 @@ fn free_at(
         Standing::FreePlace => unchanged(state, Reply::Fault(Fault::AlreadyFree)),
         Standing::DelayedPlace(_) => freed_again(head, pool, state, address),
         Standing::LivePlace(place, block) => {
-            let broken = broken_canary(head, pool, state, block)?;
-            delay_unless(head, pool, broken, state, place)
+            let found = misuse(head, pool, state, block)?;
+            delay_unless(head, pool, found, state, place)
         }
     }
 }

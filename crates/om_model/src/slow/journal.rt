@@ -56,17 +56,15 @@ fn are_same(some: &[u32], others: &[u32]) -> bool
 
 fn names_searched(
     alloc: Global,
-    head: &Head,
-    pool: u32,
+    zones: u32,
     word: u32,
     looks: &LookList,
 ) -> Result<bool, AllocError>
-    requires { 1 ≤ head.now.zones }
-    ensures { IfOk result (λ named. IsTrue named ↔
-        NamesSearched (rules_of head.now pool) word looks.now.items) }
+    requires { 1 ≤ zones }
+    ensures { IfOk result (λ named. IsTrue named ↔ NamesSearched zones word looks.now.items) }
 {
     let named = named_zones(alloc, looks)?;
-    let searched = searched_zones(alloc, head.zones, word, looks.len())?;
+    let searched = searched_zones(alloc, zones, word, looks.len())?;
     Ok(are_same(&named, &searched))
 }
 
@@ -160,12 +158,12 @@ fn answers_search(
 ) -> Result<bool, AllocError>
     requires { 1 ≤ head.now.zones }
     ensures { IfOk result (λ may. IsTrue may ↔
-        (NamesSearched (rules_of head.now pool) word entry.now.looks
+        (NamesSearched head.now.zones word entry.now.looks
         × EndsSearch (rules_of head.now pool) state.now count word (length entry.now.looks)
         entry.now.claim
         × (entry.now.taken ≡ None))) }
 {
-    let named = names_searched(state.alloc, head, pool, word, &entry.looks)?;
+    let named = names_searched(state.alloc, head.zones, word, &entry.looks)?;
     let passed = entry.looks.len();
     let ends = ends_search(head, pool, state, count, word, passed, entry.claim);
     Ok(named && ends && entry.taken.is_none())
@@ -325,8 +323,8 @@ impl State {
             state_from (rules_of head.now pool) self.now journal.now.items)) }
     {
         let mut state = self.copy()?;
-        for i in 0..journal.len() {
-            match state.follow(head, pool, journal.entry(i))? {
+        for entry in journal.as_slice() {
+            match state.follow(head, pool, entry)? {
                 Some(next) => state = next,
                 None => return Ok(None),
             }

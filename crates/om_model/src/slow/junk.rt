@@ -1,7 +1,7 @@
 //! What a block's bytes are filled with when it is allocated and when it is freed.
 ghost use Rattle.std.specs.Prelude.{◌≡◌, ◌^◌, ◌<◌};
 ghost use Rattle.om_model.specs.Output.Head.{rules_of};
-ghost use Rattle.om_model.specs.Pool.Junk.{data_extent, freed_len, with_fresh_junk, with_freed_place, with_freed_pages};
+ghost use Rattle.om_model.specs.Pool.Junk.{data_extent, fills_freed, freed_len, with_fresh_junk, with_freed_place, with_freed_pages};
 ghost use Rattle.om_model.specs.Pool.InUse.{data_of};
 ghost use Rattle.om_model.specs.Pool.State.{filled_with};
 
@@ -10,11 +10,10 @@ use super::rules::size_class;
 use super::state::State;
 use crate::block::{Block, Place};
 use crate::content::Head;
+use om_delay::FREED_BYTE;
 use om_geom::{PAGE_SIZE, pages_of};
 
 const FRESH: u8 = 0xdb;
-
-const FREED: u8 = 0xdf;
 
 // So many bytes of a freed page block are filled at level 1.
 const FREED_FRONT: u128 = 2048;
@@ -51,13 +50,20 @@ pub(super) fn with_fresh_junk(head: &Head, pool: u32, block: Block, state: State
     }
 }
 
+/// Whether a freed place is filled.
+pub(super) fn fills_freed(head: &Head, pool: u32) -> bool
+    ensures { result ≡ fills_freed (rules_of head.now pool) }
+{
+    head.opts.junk == 1 || head.opts.junk == 2
+}
+
 /// The state once a freed place is filled.
 #[tactic(auto, unfolding(crate::specs::Pool::Junk::with_freed_place))]
 pub(super) fn with_freed_place(head: &Head, pool: u32, place: Place, state: State) -> State
     ensures { result ≡ with_freed_place (rules_of head.now pool) place state }
 {
-    if head.opts.junk == 1 || head.opts.junk == 2 {
-        filled(state, &use_of_place(place), FREED)
+    if fills_freed(head, pool) {
+        filled(state, &use_of_place(place), FREED_BYTE)
     } else {
         state
     }
@@ -81,6 +87,8 @@ pub(super) fn with_freed_pages(head: &Head, pool: u32, block: Block, mut state: 
     ensures { result ≡ with_freed_pages (rules_of head.now pool) block state }
 {
     let len = freed_len(head.opts.junk, pages_of(block.size));
-    state.memory.fill(u128::from(block.address), len, FREED);
+    state
+        .memory
+        .fill(u128::from(block.address), len, FREED_BYTE);
     state
 }

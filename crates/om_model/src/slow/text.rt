@@ -65,8 +65,8 @@ fn push_outcomes(out: &mut Vec<u8>, outcomes: &Transcript) -> Result<(), AllocEr
     ensures { OnOk result (out.new.items ≡ out.old.items ++
         flat_map numbered_line (enumerate_from 1 outcomes.now)) }
 {
-    for i in 0..outcomes.len() {
-        text::push_outcome_line(out, i + 1, *outcomes.outcome(i))?;
+    for (i, outcome) in outcomes.as_slice().iter().enumerate() {
+        text::push_outcome_line(out, i as u32 + 1, *outcome)?;
     }
     Ok(())
 }

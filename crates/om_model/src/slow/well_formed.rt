@@ -7,7 +7,8 @@ ghost use Rattle.om_geom.specs.Classes.{is_class};
 ghost use Rattle.om_geom.specs.Numbers.{zone_pages};
 ghost use Rattle.om_model.specs.Output.Head.{rules_of};
 ghost use Rattle.om_model.specs.Pool.InUse.{touches};
-ghost use Rattle.om_model.specs.Pool.State.{slot_count, holds};
+ghost use Rattle.om_delay.specs.Slots.{slot_count};
+ghost use Rattle.om_model.specs.Pool.State.{holds};
 ghost use Rattle.om_model.specs.Pool.WellFormed.{EachPair, AreApart, AreAlike, AgreeOnPages, BeginsRight, FitsZone, HasBytes, LiesOn, IsWellFormed};
 ghost use Rattle.om_model.specs.Slow.{kind_in};
 
@@ -15,8 +16,9 @@ use super::in_use::{Kind, Use, first_byte, kind_of, page_of, touches, uses};
 use super::malloc::{is_too_large, pages_for};
 use super::picks::starts_place;
 use super::state::{State, is_held};
-use crate::block::{Block, Place, SLOT_COUNT};
+use crate::block::{Block, Place};
 use crate::content::Head;
+use om_delay::SLOT_COUNT;
 use om_geom::{PAGE_SIZE, ZONE_PAGES, is_class};
 use std::alloc::AllocError;
 

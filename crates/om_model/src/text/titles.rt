@@ -1,4 +1,4 @@
-ghost use Rattle.std.specs.Prelude.{◌≡◌, ◌++◌, map, codes, decimal, OnOk};
+ghost use Rattle.std.specs.Prelude.{◌≡◌, ◌++◌, ◌<◌, map, length, codes, decimal, OnOk, IfSome};
 ghost use Rattle.std.specs.List.{flat_map, join_with_byte, position};
 ghost use Rattle.om_model.specs.Output.Text.{head_lines, flag, flags_text, plan_text, byte_text, ending_line, ended_line, warned_line, numbered_line};
 ghost use Rattle.om_model.specs.Scripts.Outcomes.{is_fault};
@@ -201,12 +201,16 @@ pub fn push_outcome_line(out: &mut Vec<u8>, number: u32, outcome: Outcome) -> Re
 pub fn first_fault(outcomes: &Transcript) -> Option<u32>
     ensures { result ≡ position is_fault outcomes.now }
 {
-    for place in 0..outcomes.len() {
-        if let Outcome::Fault(_) = outcomes.outcome(place) {
-            return Some(place);
-        }
-    }
-    None
+    fault_in(outcomes.as_slice()).map(|place| place as u32)
+}
+
+fn fault_in(outcomes: &[Outcome]) -> Option<usize>
+    ensures place { result ≡ position is_fault outcomes.now }
+    ensures within { IfSome result (λ place. place < length outcomes.now) }
+{
+    outcomes
+        .iter()
+        .position(|outcome| matches!(outcome, Outcome::Fault(_)))
 }
 
 /// Adds the last line of a script, of which the outcome at this place is the first fault.

@@ -70,6 +70,9 @@ fn letters_give_the_flags(rt: HostRuntime) -> Result<(), Fail> {
         ("C", "C------"),
         ("G", "--G----"),
         ("U", "----U--"),
+        ("F", "-F--U--"),
+        ("Fu", "-F-----"),
+        ("UFC", "CF--U--"),
         ("GU", "--G-U--"),
         ("Gg", "-------"),
         ("Uf", "-------"),
@@ -77,7 +80,9 @@ fn letters_give_the_flags(rt: HostRuntime) -> Result<(), Fail> {
         ("GUu", "--G----"),
         ("CFGUcf", "--G----"),
         ("cFCf", "C------"),
+        ("fcF", "-F--U--"),
         ("FGfU", "--G-U--"),
+        ("DFRdr", "-F--U--"),
     ];
     for (letters, flags) in cases {
         let line = format!(in rt.alloc(); "run -o {letters} -w 0")?;
@@ -97,8 +102,15 @@ fn letters_give_the_flags(rt: HostRuntime) -> Result<(), Fail> {
 
 // S sets junk and the cache too.
 #[test]
-fn all_checks_without_freecheck(rt: HostRuntime) -> Result<(), Fail> {
-    for (letters, flags) in [("Sf", "C-G----"), ("SfU", "C-G-U--"), ("Scf", "--G----")] {
+fn all_checks(rt: HostRuntime) -> Result<(), Fail> {
+    let cases = [
+        ("S", "CFG-U--"),
+        ("Su", "CFG----"),
+        ("Sf", "C-G----"),
+        ("SfU", "C-G-U--"),
+        ("Scf", "--G----"),
+    ];
+    for (letters, flags) in cases {
         let line = format!(in rt.alloc(); "run -o {letters} -w 0")?;
         let head = format!(in rt.alloc();
             "64 pools 1 flags {flags} junk 2 cache 0\nwords list 0\n"

@@ -1,13 +1,23 @@
-use Rattle.std.proofs.Common.{rules}
+use Rattle.std.proofs.Common.{◌≡◌, ◌∙◌, Some, sym, ap, arith, rules}
+use Rattle.std.specs.List.{slice_get}
+use Rattle.std.proofs.lemmas.Option.{slice_get-get_or}
 use Rattle.om_model.specs.Output.Text.{entry_line}
 use Rattle.omalloc.proofs.ReportText.{Adds-next, Adds-stopped}
 use Rattle.omalloc.proofs.report.write_entries.Goals as goal
 
 pub returns-in_err-write_entry : goal.returns-in_err-write_entry
 returns-in_err-write_entry g c =
-    let t = Adds-stopped g.K.Sink.written g.K.Sink.faults c.args.out.now c.loop-i.out c.write_entry.new.out entry_line c.args.journal.now.items c.loop-i.i c.entry.result.now _ c.entry.ensures c.loop-i.invariant c.in_err-write_entry.ensures in
+    let i = c.loop-entry.entry-index in
+    let entry = c.entry-item.result in
+    let at : slice_get c.as_slice-entry-items.result.now i ≡ Some entry = slice_get-get_or c.as_slice-entry-items.result.now i entry (omega arith) ∙ ap Some (sym c.entry-item.is) in
+    let here = ap (λ es. slice_get es i) (sym c.as_slice-entry-items.ensures.items) ∙ at in
+    let t = Adds-stopped g.K.Sink.written g.K.Sink.faults c.args.out.now c.loop-entry.out c.write_entry.new.out entry_line c.args.journal.now.items i entry _ here c.loop-entry.invariant c.in_err-write_entry.ensures in
     search rules
 
-pub loop-i-preserved : goal.loop-i-preserved
-loop-i-preserved g c =
-    Adds-next g.K.Sink.written g.K.Sink.faults c.args.out.now c.loop-i.out c.write_entry.new.out entry_line c.args.journal.now.items c.loop-i.i c.entry.result.now c.entry.ensures c.loop-i.invariant c.in_ok-write_entry.ensures
+pub loop-entry-preserved : goal.loop-entry-preserved
+loop-entry-preserved g c =
+    let i = c.loop-entry.entry-index in
+    let entry = c.entry-item.result in
+    let at : slice_get c.as_slice-entry-items.result.now i ≡ Some entry = slice_get-get_or c.as_slice-entry-items.result.now i entry (omega arith) ∙ ap Some (sym c.entry-item.is) in
+    let here = ap (λ es. slice_get es i) (sym c.as_slice-entry-items.ensures.items) ∙ at in
+    Adds-next g.K.Sink.written g.K.Sink.faults c.args.out.now c.loop-entry.out c.write_entry.new.out entry_line c.args.journal.now.items i entry here c.loop-entry.invariant c.in_ok-write_entry.ensures

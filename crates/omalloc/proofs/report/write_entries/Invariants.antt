@@ -4,5 +4,5 @@ use Rattle.om_io.specs.Buffered.{Adds}
 use Rattle.om_model.specs.Output.Text.{entry_line}
 use Rattle.omalloc.proofs.report.write_entries.Given as goal
 
-abbrev pub invariant-loop-i : goal.invariant-loop-i
-invariant-loop-i g l = Adds g.K.Sink.written g.K.Sink.faults l.initial.out l.out (flat_map entry_line (take l.i l.journal.items)) (Ok tt)
+abbrev pub invariant-loop-entry : goal.invariant-loop-entry
+invariant-loop-entry g l = Adds g.K.Sink.written g.K.Sink.faults l.initial.out l.out (flat_map entry_line (take l.entry-index l.journal.items)) (Ok tt)

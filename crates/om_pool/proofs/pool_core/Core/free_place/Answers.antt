@@ -33,7 +33,7 @@ delay-requires-clause-whole g c =
     (c.args.block, c.requires.live, shown ∙ sym c.broken_canary.ensures ∙ c.in-None.is)
 
 pub returns-in-Some-clause-backed : goal.returns-in-Some-clause-backed
-returns-in-Some-clause-backed g c = backed-quiet g.B.Broker c.args.self.now c.tell_broken.new.self c.args.broker.now c.args.who (Free c.args.address) c.tell_broken.result c.tell_broken.ensures.quiet c.requires.backed
+returns-in-Some-clause-backed g c = backed-quiet g.B.Broker c.args.self.now c.tell.new.self c.args.broker.now c.args.who (Free c.args.address) c.tell.result c.tell.ensures.quiet c.requires.backed
 
 pub returns-in-Some-clause-uses : goal.returns-in-Some-clause-uses
-returns-in-Some-clause-uses g c = uses-quiet g.B.Broker c.args.self.now c.tell_broken.new.self c.args.broker.now c.args.who (Free c.args.address) c.tell_broken.result c.tell_broken.ensures.quiet c.tell_broken.ensures.reply
+returns-in-Some-clause-uses g c = uses-quiet g.B.Broker c.args.self.now c.tell.new.self c.args.broker.now c.args.who (Free c.args.address) c.tell.result c.tell.ensures.quiet c.tell.ensures.reply

@@ -1,7 +1,7 @@
 use Rattle.std.proofs.Common.{◌≡◌, Bool, true, false, refl, ap, ◌∙◌}
 use Rattle.om_model.specs.declared.operation.Op.TheVariants.{Malloc}
 use Rattle.om_model.specs.declared.reply.Why.TheVariants.{TooLarge}
-use Rattle.om_pool.specs.Malloc.{null_or_fault_by}
+use Rattle.om_model.specs.Pool.Steps.{null_or_fault_by}
 use Rattle.om_pool.specs.PoolView.{says_no_run}
 use Rattle.om_pool.proofs.CallLaws.{backed-quiet}
 use Rattle.om_pool.proofs.Spending.{uses-quiet}

@@ -1,5 +1,6 @@
-use Rattle.std.proofs.Common.{take, refl, sym, ap, subst, ◌∙◌, arith}
+use Rattle.std.proofs.Common.{Some, length, take, refl, sym, ap, subst, ◌∙◌, arith}
 use Rattle.std.proofs.lemmas.List.{length-take-le}
+use Rattle.std.proofs.lemmas.Option.{slice_get-get_or}
 use Rattle.om_model.specs.Output.Head.{rules_of}
 use Rattle.om_model.specs.Pool.State.{State}
 use Rattle.om_model.specs.Pool.Journal.{after, state_from, IsLawfulEntry, IsLawfulFrom}
@@ -11,35 +12,34 @@ use Rattle.om_model.proofs.slow.state.State.follow_all.Goals as goal
 
 pub follow-requires-clause-few : goal.follow-requires-clause-few
 follow-requires-clause-few c =
-    let items = c.args.journal.now.items in
-    let drawn = ap (λ (s : State). s.drawn) c.loop-i.invariant.next in
-    let few = from-drawn (rules_of c.args.head.now c.args.pool) c.args.self.now (take c.loop-i.i items) in
-    let many = length-take-le c.loop-i.i items (omega arith) in
+    let drawn = ap (λ (s : State). s.drawn) c.loop-entry.invariant.next in
+    let few = from-drawn (rules_of c.args.head.now c.args.pool) c.args.self.now (take c.loop-entry.entry-index c.args.journal.now.items) in
+    let many = length-take-le c.loop-entry.entry-index c.args.journal.now.items (omega (arith, ap length c.as_slice-entry-items.ensures.items)) in
     omega arith
 
 pub returns-in-None-clause-lawful : goal.returns-in-None-clause-lawful
 returns-in-None-clause-lawful c =
     let rules = rules_of c.args.head.now c.args.pool in
-    let entry = c.entry.result.now in (
+    let i = c.loop-entry.entry-index in
+    let entry = c.entry-item.result in
+    let found = slice_get-get_or c.as_slice-entry-items.result.now i entry c.loop-entry-test.true ∙ ap Some (sym c.entry-item.is) in (
       (λ e. cc),
       (λ lawful.
-          let there = lawful-at rules c.args.self.now c.args.journal.now.items c.loop-i.i entry c.entry.ensures lawful in
-          let some = c.in_ok-next.ensures.lawful.1 (subst (λ s. IsLawfulEntry rules s entry) (sym c.loop-i.invariant.next) there) in
-          rw c.in-None.is at some),
+          let there = lawful-at rules c.args.self.now c.args.journal.now.items i entry (rw c.as_slice-entry-items.ensures.items at found) lawful in
+          rw c.in-None.is at c.in_ok-next.ensures.lawful.1 (subst (λ s. IsLawfulEntry rules s entry) (sym c.loop-entry.invariant.next) there)),
     )
 
-pub loop-i-preserved : goal.loop-i-preserved
-loop-i-preserved c =
+pub loop-entry-preserved : goal.loop-entry-preserved
+loop-entry-preserved c =
     let rules = rules_of c.args.head.now c.args.pool in
     let old = c.args.self.now in
     let items = c.args.journal.now.items in
-    let i = c.loop-i.i in
-    let entry = c.entry.result.now in
-    let more = take_next items i entry c.entry.ensures in
-    let here = c.in_ok-next.ensures.lawful.0 (rw c.in-Some.is refl) in
-    let follows = rw c.in-Some.is at c.in_ok-next.ensures.next in
+    let i = c.loop-entry.entry-index in
+    let entry = c.entry-item.result in
+    let found = slice_get-get_or c.as_slice-entry-items.result.now i entry c.loop-entry-test.true ∙ ap Some (sym c.entry-item.is) in
+    let more = take_next items i entry (rw c.as_slice-entry-items.ensures.items at found) in
+    let here = subst (λ s. IsLawfulEntry rules s entry) c.loop-entry.invariant.next (c.in_ok-next.ensures.lawful.0 (rw c.in-Some.is refl)) in
     record {
-      lawful = subst (IsLawfulFrom rules old) (sym more)
-          (IsLawfulFrom-push rules old (take i items) entry c.loop-i.invariant.lawful (subst (λ s. IsLawfulEntry rules s entry) c.loop-i.invariant.next here));
-      next = follows ∙ ap (λ s. after rules s entry) c.loop-i.invariant.next ∙ sym (state_from-push rules old (take i items) entry) ∙ ap (state_from rules old) (sym more);
+      lawful = subst (IsLawfulFrom rules old) (sym more) (IsLawfulFrom-push rules old (take i items) entry c.loop-entry.invariant.lawful here);
+      next = (rw c.in-Some.is at c.in_ok-next.ensures.next) ∙ ap (λ s. after rules s entry) c.loop-entry.invariant.next ∙ sym (state_from-push rules old (take i items) entry) ∙ ap (state_from rules old) (sym more);
     }

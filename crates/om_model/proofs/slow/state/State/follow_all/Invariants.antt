@@ -4,8 +4,8 @@ use Rattle.om_model.specs.Pool.Journal.{state_from, IsLawfulFrom}
 use Rattle.om_model.proofs.slow.state.State.follow_all.Given as goal
 
 -- the entries so far are lawful, and lead to this state
-abbrev pub invariant-loop-i : goal.invariant-loop-i
-invariant-loop-i l = record {
-  lawful : IsLawfulFrom (rules_of l.head l.pool) l.self (take l.i l.journal.items);
-  next : l.state ≡ state_from (rules_of l.head l.pool) l.self (take l.i l.journal.items);
+abbrev pub invariant-loop-entry : goal.invariant-loop-entry
+invariant-loop-entry l = record {
+  lawful : IsLawfulFrom (rules_of l.head l.pool) l.self (take l.entry-index l.journal.items);
+  next : l.state ≡ state_from (rules_of l.head l.pool) l.self (take l.entry-index l.journal.items);
 }

@@ -1,10 +1,18 @@
--- Slots, of which one is set: what is found among the places that wait, and what is so of them.
-use Rattle.std.proofs.Common.{◌≡◌, ℕ, zero, suc, ◌<◌, Bool, true, false, List, [], ◌∷◌, length, cond, Option, Some, None, IfSome, is_some, refl, ap, subst, arith}
+-- Slots, of which one is set: what is found among the places that wait, what is so of them, and their bytes.
+use Rattle.std.proofs.Common.{◌≡◌, ℕ, zero, suc, ◌<◌, Bool, true, false, List, [], ◌∷◌, length, cond, Option, Some, None, IfSome, is_some, refl, sym, ap, subst, arith}
 use Rattle.std.specs.Prelude.{slice_index_or, slice_set}
 use Rattle.std.specs.List.{AllByRecursion, find}
+use Rattle.std.specs.Option.{option_map}
+use Rattle.std.proofs.Math.ListN.{get_or-map}
+use Rattle.std.proofs.lemmas.List.{map-set}
+use Rattle.om_delay.specs.Slots.{begins_at, slot_at, with_slot}
+use Rattle.om_geom.specs.declared.address.Extent.{Extent}
+use Rattle.om_model.specs.Pool.Free.{slot_holds}
 use Rattle.om_model.specs.Pool.InUse.{Use, use_of_place}
+use Rattle.om_model.specs.Pool.Junk.{extent_of_place}
 use Rattle.om_model.specs.Pool.State.{delayed}
 use Rattle.om_model.specs.Pool.WellFormed.{EachPair}
+use Rattle.om_model.specs.Pool.WriteAfterFree.{slot_extents}
 use Rattle.om_model.specs.declared.block.Place.{Place}
 use Rattle.om_model.proofs.Free.{waiting}
 
@@ -57,3 +65,22 @@ module _ (new : Place) where
     swap (use_of_place x) (use_of_place gone) (slot-has (R (use_of_place x)) slots k gone pairs.0 at),
     slot-related R swap slots k gone pairs.1 at here,
   )
+
+-- ---- the bytes that wait in each slot
+
+module _ (slots : List (Option Place)) (k : ℕ) where
+  pub extent-at : slot_at (slot_extents slots) k ≡ option_map extent_of_place (slice_index_or slots k None)
+  extent-at = get_or-map (option_map extent_of_place) slots k None
+
+  pub extents-put : (place : Place) → with_slot (slot_extents slots) k (extent_of_place place) ≡ slot_extents (slice_set slots k (Some place))
+  extents-put place = sym (map-set (option_map extent_of_place) slots k (Some place))
+
+-- what is so of the bytes that a slot has
+pub if-waits : (P : Extent → Type 0) (slot : Option Place) → ((place : Place) → slot ≡ Some place → P (extent_of_place place)) → IfSome (option_map extent_of_place slot) P
+if-waits P None each = tt
+if-waits P (Some place) each = each place refl
+
+-- a slot has a place as its bytes begin there
+pub begins-waiting : (slot : Option Place) (address : ℕ) → begins_at address (option_map extent_of_place slot) ≡ slot_holds slot address
+begins-waiting None address = refl
+begins-waiting (Some place) address = refl
