@@ -29,7 +29,7 @@ block-at blocks page block are held is =
     record { there = there; long = subst (λ (block : Vec ℕ Global). IsPage block.items) (sym is) whole some; bytes = shown }
 
 -- a part with some byte begins on a held page of the arena
-part-held : (memory : List (List ℕ)) (at len : ℕ) → IsHeldPart memory at len → 0 < len → (first_address ≤ at) × (is_held memory (page_at at) ≡ true)
+pub part-held : (memory : List (List ℕ)) (at len : ℕ) → IsHeldPart memory at len → 0 < len → (first_address ≤ at) × (is_held memory (page_at at) ≡ true)
 part-held memory at len held some =
     let both = and_parts (nat_le first_address at) (is_held memory (page_at at)) (held at (omega arith) (omega arith)) in
     (leb-true first_address at both.0, both.1)

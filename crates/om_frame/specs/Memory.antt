@@ -2,8 +2,9 @@
 -- any other page has none.
 use Rattle.std.specs.Prelude.{◌≡◌, ℕ, ◌+◌, ◌-◌, ◌*◌, ◌%◌, ◌<◌, ◌≤◌, Bool, true, ◌&&◌, not, nat_le, nat_lt, ◌==◌, List, [], ◌∷◌, length, map, filter, replicate, slice_index, slice_index_or, slice_set, take, Option, if◌then◌else◌}
 use Rattle.std.specs.List.{position_from, range_with_len}
-use Rattle.om_geom.specs.Addresses.{page_at}
+use Rattle.om_geom.specs.Addresses.{page_at, SharesByte}
 use Rattle.om_geom.specs.Numbers.{page_size, zone_pages, first_address}
+use Rattle.om_geom.specs.declared.address.Extent.{Extent}
 
 -- of an arena of so many zones, while no page is held
 abbrev pub no_pages : ℕ → List (List ℕ)
@@ -50,6 +51,10 @@ with_bytes memory address (byte ∷ bytes) = with_bytes (with_byte memory addres
 abbrev pub filled : List (List ℕ) → ℕ → ℕ → ℕ → List (List ℕ)
 filled memory address len byte = with_bytes memory address (replicate len byte)
 
+-- the memory after so many bytes from one address on were copied to another: all are read before one is written
+abbrev pub copied : List (List ℕ) → ℕ → ℕ → ℕ → List (List ℕ)
+copied memory from to len = with_bytes memory to (bytes_at memory from len)
+
 -- The memory after a part was lent and given up with these bytes. There are as many as were lent, all on one page.
 -- For lists of any other length, which no slice has, it is what is left of them: none past the page's end, and none
 -- where none was lent.
@@ -67,3 +72,11 @@ IsPage bytes = 0 < length bytes → length bytes ≡ page_size
 -- every page that so many bytes from an address on touch is held
 abbrev pub IsHeldPart : List (List ℕ) → ℕ → ℕ → Type 0
 IsHeldPart memory first len = (address : ℕ) → first ≤ address → address < first + len → is_held_at memory address ≡ true
+
+-- their extent
+abbrev pub part_extent : ℕ → ℕ → Extent
+part_extent first len = record { first = first; len = len }
+
+-- so many bytes from one address on and as many from another have none in common
+abbrev pub ShareNoByte : ℕ → ℕ → ℕ → Type 0
+ShareNoByte from to len = SharesByte (part_extent from len) (part_extent to len) → ⊥

@@ -6,9 +6,10 @@ use Rattle.std.proofs.lemmas.Bool.{and_parts, ltb-true, leb-true, cases_eq, case
 use Rattle.std.proofs.lemmas.List.{map-append, length-set, get_or-set_same, get_or-set_other, set-get_or, set-set, set_past, take-append-drop, drop_more, take_more_set, drop-set-lt, get_or_past, drop-drop, append_assoc, length-replicate, replicate-append-replicate}
 use Rattle.std.proofs.lemmas.List.Elements.{filter_agree}
 use Rattle.std.proofs.lemmas.List.FromFn.{length-map-range_with_len}
-use Rattle.om_geom.specs.Addresses.{address_of, page_at}
+use Rattle.om_geom.specs.Addresses.{address_of, page_at, SharesByte}
 use Rattle.om_geom.specs.Numbers.{page_size, zone_pages, most_zones, first_address}
-use Rattle.om_frame.specs.Memory.{page_bytes, is_held, held_pages, is_held_at, offset_at, byte_at, bytes_at, with_byte, with_bytes, filled, first_other, IsHeldPart}
+use Rattle.om_geom.specs.declared.address.Extent.{Extent}
+use Rattle.om_frame.specs.Memory.{page_bytes, is_held, held_pages, is_held_at, offset_at, byte_at, bytes_at, with_byte, with_bytes, filled, copied, first_other, IsHeldPart, ShareNoByte}
 use mathlib.Core.Logic.{⊎_elim}
 
 -- ---- a byte's page and its place there
@@ -31,6 +32,9 @@ range-append a (suc j) k =
     let here : a + 1 + j ≡ a + suc j = omega arith in
     ap (λ (n : ℕ). range_with_len a n) (sym more)
     ∙ ap (λ (xs : List ℕ). a ∷ xs) (range-append (a + 1) j k ∙ ap (λ (x : ℕ). range_with_len (a + 1) j ++ range_with_len x k) here)
+
+pub length-bytes_at : (memory : List (List ℕ)) (at len : ℕ) → length (bytes_at memory at len) ≡ len
+length-bytes_at memory at len = length-map-range_with_len (byte_at memory) at len
 
 pub bytes_at-append : (memory : List (List ℕ)) (at j k : ℕ) → bytes_at memory at (j + k) ≡ bytes_at memory at j ++ bytes_at memory (at + j) k
 bytes_at-append memory at j k = ap (map (byte_at memory)) (range-append at j k) ∙ map-append (byte_at memory) (range_with_len at j) (range_with_len (at + j) k)
@@ -118,6 +122,9 @@ is_held_at-with_bytes memory at new address = ap (λ (held : Bool). nat_le first
 pub is_held_at-filled : (memory : List (List ℕ)) (at len byte address : ℕ) → is_held_at (filled memory at len byte) address ≡ is_held_at memory address
 is_held_at-filled memory at len byte address = is_held_at-with_bytes memory at (replicate len byte) address
 
+pub is_held_at-copied : (memory : List (List ℕ)) (from to len address : ℕ) → is_held_at (copied memory from to len) address ≡ is_held_at memory address
+is_held_at-copied memory from to len address = is_held_at-with_bytes memory to (bytes_at memory from len) address
+
 pub held_pages-with_bytes : (memory : List (List ℕ)) (at : ℕ) (new : List ℕ) → held_pages (with_bytes memory at new) ≡ held_pages memory
 held_pages-with_bytes memory at new =
     ap (λ (n : ℕ). filter (is_held (with_bytes memory at new)) (range_with_len 0 n)) (length-with_bytes memory at new)
@@ -127,6 +134,9 @@ held_pages-with_bytes memory at new =
 
 pub IsHeldPart-within : (memory : List (List ℕ)) (at len done piece : ℕ) → IsHeldPart memory at len → done + piece ≤ len → IsHeldPart memory (at + done) piece
 IsHeldPart-within memory at len done piece held within address low high = held address (omega arith) (omega arith)
+
+pub ShareNoByte-within : (a b : Extent) (from to len : ℕ) → (SharesByte a b → ⊥) → a.first ≤ from → from + len ≤ a.first + a.len → b.first ≤ to → to + len ≤ b.first + b.len → ShareNoByte from to len
+ShareNoByte-within a b from to len apart low_a high_a low_b high_b (byte, of_from, of_to) = apart (byte, (omega arith, omega arith), (omega arith, omega arith))
 
 pub held_at-low : (memory : List (List ℕ)) (address : ℕ) → is_held_at memory address ≡ true → first_address ≤ address
 held_at-low memory address held = leb-true first_address address (and_parts (nat_le first_address address) (is_held memory (page_at address)) held).0

@@ -4,10 +4,11 @@ use Rattle.std.specs.Prelude.{All, ◌⊎◌}
 use Rattle.std.proofs.lemmas.Bool.{and_parts, ltb-true, ne_eqb, lt-ltb, cases_eq, cases_lt}
 use Rattle.std.proofs.lemmas.List.{length-set, get_or-set_same, get_or-set_other, set_past, take_all, nil_from_length}
 use Rattle.std.proofs.lemmas.List.Elements.{All-set}
+use Rattle.std.proofs.lemmas.List.FromFn.{get_or-map-range_with_len}
 use Rattle.om_geom.specs.Addresses.{page_at}
 use Rattle.om_geom.specs.Numbers.{page_size, first_address}
-use Rattle.om_frame.specs.Memory.{page_bytes, is_held, is_held_at, offset_at, byte_at, bytes_at, with_byte, with_bytes, IsPage, IsHeldPart, with_part}
-use Rattle.om_frame.specs.MemoryLaws.{is_held-there, is_held_at-with_bytes, held_at-low}
+use Rattle.om_frame.specs.Memory.{page_bytes, is_held, is_held_at, offset_at, byte_at, bytes_at, with_byte, with_bytes, copied, IsPage, IsHeldPart, with_part}
+use Rattle.om_frame.specs.MemoryLaws.{is_held-there, is_held_at-with_bytes, held_at-low, length-bytes_at, bytes_at-append, with_bytes-append}
 use mathlib.Core.Logic.{⊎_elim, inl, inr}
 
 -- a lent part holds as many bytes as were lent, and they are all written
@@ -86,3 +87,32 @@ bytes_at-with_bytes memory at (x ∷ new) pages held =
     let rest = bytes_at-with_bytes next (at + 1) new (pages-with_byte memory at x pages)
     (λ address from below. is_held_at-with_bytes memory at (x ∷ []) address ∙ held address (omega arith) (omega arith)) in
     rw (here, rest) refl
+
+-- ---- a copy
+
+pub bytes_at-copied : (memory : List (List ℕ)) (from to len : ℕ) → All IsPage memory → IsHeldPart memory to len → bytes_at (copied memory from to len) to len ≡ bytes_at memory from len
+bytes_at-copied memory from to len pages held =
+    let many : length (bytes_at memory from len) ≡ len = length-bytes_at memory from len in
+    ap (bytes_at (copied memory from to len) to) (sym many) ∙ bytes_at-with_bytes memory to (bytes_at memory from len) pages (subst (IsHeldPart memory to) (sym many) held)
+
+pub byte_at-copied : (memory : List (List ℕ)) (from to len i : ℕ) → All IsPage memory → IsHeldPart memory to len → i < len → byte_at (copied memory from to len) (to + i) ≡ byte_at memory (from + i)
+byte_at-copied memory from to len i pages held within =
+    sym (get_or-map-range_with_len (byte_at (copied memory from to len)) to len i (to + i) 0 within refl)
+    ∙ ap (λ (bytes : List ℕ). get_or bytes i 0) (bytes_at-copied memory from to len pages held)
+    ∙ get_or-map-range_with_len (byte_at memory) from len i (from + i) 0 within refl
+
+pub bytes_at-copied_outside : (memory : List (List ℕ)) (from to len first n : ℕ) → first_address ≤ to → first_address ≤ first → (first + n ≤ to) ⊎ (to + len ≤ first) → bytes_at (copied memory from to len) first n ≡ bytes_at memory first n
+bytes_at-copied_outside memory from to len first n low_to low outside =
+    bytes_at-with_bytes_outside memory to (bytes_at memory from len) first n low_to low
+    (subst (λ (k : ℕ). (first + n ≤ to) ⊎ (to + k ≤ first)) (sym (length-bytes_at memory from len)) outside)
+
+-- a copy in two parts, where the first writes no byte that the second reads
+pub copied-more : (memory : List (List ℕ)) (from to done piece : ℕ) → first_address ≤ from → first_address ≤ to → (from + done + piece ≤ to) ⊎ (to + done ≤ from + done)
+    → copied (copied memory from to done) (from + done) (to + done) piece ≡ copied memory from to (done + piece)
+copied-more memory from to done piece low_from low_to outside =
+    let front : List ℕ = bytes_at memory from done in
+    let back : List ℕ = bytes_at memory (from + done) piece in
+    ap (with_bytes (with_bytes memory to front) (to + done)) (bytes_at-copied_outside memory from to done (from + done) piece low_to (omega arith) outside)
+    ∙ ap (λ (n : ℕ). with_bytes (with_bytes memory to front) (to + n) back) (sym (length-bytes_at memory from done))
+    ∙ sym (with_bytes-append memory to front back)
+    ∙ ap (with_bytes memory to) (sym (bytes_at-append memory from done piece))

@@ -2,6 +2,7 @@
 //! `Shelf::new` take memory.
 #![tactic(auto)]
 
+mod block;
 mod bundle;
 mod frame;
 mod ranges;

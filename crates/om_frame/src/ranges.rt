@@ -1,7 +1,7 @@
 ghost use Rattle.std.specs.Prelude.{◌≡◌, ◌+◌, ◌<◌, ◌≤◌, ◌==◌, ◌&&◌, not, true, length, IfSome};
 ghost use Rattle.std.specs.List.{fold, position_from};
 ghost use Rattle.om_geom.specs.Numbers.{page_size, first_address};
-ghost use Rattle.om_frame.specs.Memory.{offset_at, filled, first_other, IsHeldPart};
+ghost use Rattle.om_frame.specs.Memory.{offset_at, filled, copied, first_other, ShareNoByte, IsHeldPart};
 
 use crate::shelf::Shelf;
 use om_geom::{Addr, FIRST_ADDRESS, PAGE_SIZE};
@@ -18,6 +18,24 @@ impl Shelf {
             let here = Addr(at.0 + u64::from(done));
             let piece = piece_len(here, len - done);
             self.part_mut(here, piece).fill(byte);
+            done += piece;
+        }
+    }
+
+    /// Writes the `len` bytes from one address on to another, across pages. The two parts share no byte.
+    pub fn copy(&mut self, from: Addr, to: Addr, len: u32)
+        requires source { IsHeldPart self.old from.0 len }
+        requires target { IsHeldPart self.old to.0 len }
+        requires apart { ShareNoByte from.0 to.0 len }
+        ensures { self.new ≡ copied self.old from.0 to.0 len }
+    {
+        self.fits();
+        let mut done = 0;
+        while done < len {
+            let source = Addr(from.0 + u64::from(done));
+            let target = Addr(to.0 + u64::from(done));
+            let piece = piece_len(source, piece_len(target, len - done));
+            self.copy_part(source, target, piece);
             done += piece;
         }
     }

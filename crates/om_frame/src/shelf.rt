@@ -2,10 +2,11 @@ ghost use Rattle.std.specs.Prelude.{◌≡◌, ◌+◌, ◌*◌, ◌≤◌, ◌<
 ghost use Rattle.std.specs.Borrow.{sem};
 ghost use Rattle.om_geom.specs.Addresses.{page_at};
 ghost use Rattle.om_geom.specs.Numbers.{page_size, zone_pages, most_zones, first_address};
-ghost use Rattle.om_frame.specs.Memory.{no_pages, offset_at, bytes_at, is_held, IsPage, IsHeldPart};
+ghost use Rattle.om_frame.specs.Memory.{no_pages, offset_at, bytes_at, copied, is_held, ShareNoByte, IsPage, IsHeldPart};
 ghost use Rattle.om_frame.specs.Frames.{with_frames, without_pages, zero_frame, zero_frames, AreHeld};
 ghost use Rattle.om_frame.specs.Lending.{LendsPart};
 
+use crate::block::copy_bytes;
 use crate::bundle::Bundle;
 use crate::frame::Frame;
 use om_geom::{Addr, FIRST_ADDRESS, PAGE_SIZE, Page, ZONE_PAGES};
@@ -117,6 +118,19 @@ impl Shelf {
         ensures pages { All IsPage self.now }
     {
         let _blocks = &self.blocks;
+    }
+
+    // The bytes of one part come to another.
+    pub(crate) fn copy_part(&mut self, from: Addr, to: Addr, len: u32)
+        requires some { 0 < len }
+        requires source { IsHeldPart self.old from.0 len }
+        requires target { IsHeldPart self.old to.0 len }
+        requires source_page { offset_at from.0 + len ≤ page_size }
+        requires target_page { offset_at to.0 + len ≤ page_size }
+        requires apart { ShareNoByte from.0 to.0 len }
+        ensures { self.new ≡ copied self.old from.0 to.0 len }
+    {
+        copy_bytes(&mut self.blocks, locate(from), locate(to), len as usize);
     }
 
     // One page gets its frame.

@@ -1,5 +1,6 @@
 ghost use Rattle.std.specs.Prelude.{◌≡◌, ◌+◌, ◌<◌, ◌≤◌, IfOk};
-ghost use Rattle.om_frame.specs.Memory.{IsHeldPart};
+ghost use Rattle.om_geom.specs.Numbers.{page_size};
+ghost use Rattle.om_frame.specs.Memory.{offset_at, ShareNoByte, IsHeldPart};
 ghost use Rattle.om_frame.specs.Frames.{zero_frames};
 
 use super::*;
@@ -103,6 +104,8 @@ fn whole_pages_and_empty_parts(rt: HostRuntime) -> Result<(), Fail> {
     assert!(rt; shelf.part(Addr(0), 0).is_empty());
     assert!(rt; shelf.part_mut(Addr(u64::MAX), 0).is_empty());
     shelf.fill(Addr(u64::MAX), 0, 1);
+    shelf.copy(Addr(u64::MAX), Addr(0), 0);
+    shelf.copy(Addr(FIRST), Addr(FIRST), 0);
     assert_eq!(rt; shelf.all_equal(Addr(END), 0, 1), None);
     Ok(())
 }
@@ -118,6 +121,70 @@ fn ranges_across_the_end_of_a_page(rt: HostRuntime) -> Result<(), Fail> {
     write(&mut shelf, SECOND + 2, 6);
     write(&mut shelf, SECOND + 4, 6);
     assert_eq!(rt; other(&shelf, SECOND - 8, 16, 5), Some(10));
+    Ok(())
+}
+
+// Nine bytes on the first page.
+fn write_row(shelf: &mut Shelf)
+    requires { IsHeldPart shelf.old 69632 12288 }
+    ensures { IsHeldPart shelf.new 69632 12288 }
+{
+    shelf
+        .part_mut(Addr(FIRST + 10), 9)
+        .copy_from_slice(&[1, 2, 3, 4, 5, 6, 7, 8, 9]);
+}
+
+fn copy(shelf: &mut Shelf, from: u64, to: u64, len: u32)
+    requires held { IsHeldPart shelf.old 69632 12288 }
+    requires low_from { 69632 ≤ from }
+    requires low_to { 69632 ≤ to }
+    requires high_from { from + len ≤ 81920 }
+    requires high_to { to + len ≤ 81920 }
+    requires apart { ShareNoByte from to len }
+    ensures { IsHeldPart shelf.new 69632 12288 }
+{
+    shelf.copy(Addr(from), Addr(to), len);
+}
+
+fn bytes_at(shelf: &Shelf, at: u64, len: u32) -> &[u8]
+    requires held { IsHeldPart shelf.now 69632 12288 }
+    requires low { 69632 ≤ at }
+    requires high { at + len ≤ 81920 }
+    requires one_page { offset_at at + len ≤ page_size }
+{
+    shelf.part(Addr(at), len)
+}
+
+fn three_pages(alloc: Global) -> Result<Shelf, AllocError>
+    ensures { IfOk result (λ shelf. IsHeldPart shelf 69632 12288) }
+{
+    let mut bundle = two_frames(alloc)?;
+    bundle.push(Frame::zeroed(alloc, Page(3))?);
+    let mut shelf = Shelf::new(alloc, 1)?;
+    shelf.add(bundle);
+    Ok(shelf)
+}
+
+#[test]
+fn copies_on_a_page_and_across_page_ends(rt: HostRuntime) -> Result<(), Fail> {
+    let mut shelf = three_pages(rt.alloc())?;
+    write_row(&mut shelf);
+    copy(&mut shelf, FIRST + 10, SECOND - 4, 9);
+    copy(&mut shelf, SECOND - 4, END - 6, 9);
+    copy(&mut shelf, END - 6, FIRST + 40, 9);
+    copy(&mut shelf, FIRST + 40, FIRST + 36, 4);
+    copy(&mut shelf, FIRST + 40, FIRST + 49, 9);
+    for (at, want) in [
+        (FIRST + 9, &[0, 1, 2, 3, 4, 5, 6, 7, 8, 9, 0][..]),
+        (SECOND - 5, &[0, 1, 2, 3, 4]),
+        (SECOND, &[5, 6, 7, 8, 9, 0]),
+        (END - 7, &[0, 1, 2, 3, 4, 5, 6]),
+        (END, &[7, 8, 9, 0]),
+        (FIRST + 35, &[0, 1, 2, 3, 4, 1, 2, 3, 4, 5, 6, 7, 8, 9]),
+        (FIRST + 49, &[1, 2, 3, 4, 5, 6, 7, 8, 9, 0]),
+    ] {
+        assert_eq!(rt; bytes_at(&shelf, at, want.len() as u32), want, "at {at}");
+    }
     Ok(())
 }
 

@@ -1,28 +1,30 @@
 -- Memory has the bytes of the held pages, and no others: where pages come or go, and where bytes are written. What
 -- is written changes memory alone.
-use Rattle.std.proofs.Common.{◌≡◌, ◌≢◌, ℕ, zero, suc, ◌+◌, ◌*◌, ◌<◌, ◌≤◌, Bool, true, false, not, ◌&&◌, ◌||◌, ◌==◌, nat_le, nat_lt, List, [], length, map, set, replicate, if◌then◌else◌, refl, sym, ap, ◌∙◌, arith}
+use Rattle.std.proofs.Common.{◌≡◌, ◌≢◌, ℕ, zero, suc, ◌+◌, ◌*◌, ◌<◌, ◌≤◌, Bool, true, false, not, ◌&&◌, ◌||◌, ◌==◌, List, [], length, map, min, set, replicate, Option, Some, None, if◌then◌else◌, refl, sym, ap, ◌∙◌, arith}
 use Rattle.std.specs.List.{range_with_len, AllByRecursion}
-use Rattle.std.proofs.lemmas.Bool.{true≢false, cases_Bool, cases_eq, cases_lt, and_parts, and_from, leb-true, le-leb, ltb-true, lt-ltb}
+use Rattle.std.proofs.lemmas.Bool.{true≢false, cases_Bool, cases_eq, cases_lt, and_from, le-leb, lt-ltb}
 use Rattle.std.proofs.lemmas.List.{get_or-replicate, get_or-set_same, get_or_past, length-set, length-replicate}
 use mathlib.Core.Logic.{⊎_elim}
 use Rattle.om_frame.specs.Frames as frames
 use Rattle.om_frame.specs.FrameLaws.{length-with_frames, page_bytes-with_frames, page_bytes-with_zeros}
 use Rattle.om_frame.specs.Frames.{PageBytes, zeros, empty_frame}
-use Rattle.om_frame.specs.Memory.{page_bytes, no_pages}
+use Rattle.om_frame.specs.Memory.{page_bytes, bytes_at, no_pages, with_bytes}
 use Rattle.om_frame.specs.MemoryLaws.{length-with_bytes, length-page-with_bytes}
 use Rattle.om_geom.specs.declared.address.Extent.{Extent}
 use Rattle.om_geom.specs.Numbers.{page_size, zone_pages}
 use Rattle.om_geom.specs.Classes.{data_pages}
 use Rattle.om_delay.specs.Changes.{freed_byte}
-use Rattle.om_model.specs.Pool.Junk.{fresh_byte, freed_len, data_extent, extent_of_place, with_fresh_junk, with_freed_place, with_freed_pages}
+use Rattle.om_model.specs.Pool.Junk.{fresh_byte, freed_len, data_extent, extent_of_place, with_fresh_junk, new_data, with_new_data, with_freed_place, with_freed_pages}
+use Rattle.om_model.specs.Pool.Calloc.{zeroed_at}
 use Rattle.om_model.specs.Pool.Canaries.{canaries, with_canaries}
+use Rattle.om_model.specs.Pool.Realloc.{with_copy}
 use Rattle.om_model.specs.Pool.Rules.{Rules, canary_byte}
 use Rattle.om_model.specs.Pool.Runs.{Run, is_page_of}
 use Rattle.om_model.specs.Pool.State.{State, opening, is_held, with_run, without_run, with_pages, without_pages, filled_with, written}
 use Rattle.om_model.specs.Pool.WellFormed.{HasBytes}
 use Rattle.om_model.specs.declared.block.Block.{Block}
 use Rattle.om_model.specs.declared.block.Place.{Place}
-use Rattle.om_model.proofs.Held.{held-with_run, held-without_run}
+use Rattle.om_model.proofs.Held.{held-with_run, held-without_run, run-ends}
 use Rattle.om_model.proofs.Sound.{IsSound}
 use Rattle.std.proofs.Math.Bool.{and-false, and-true, or-false, or-true}
 
@@ -64,11 +66,6 @@ emptied memory first (suc n) page low high =
     (cases_eq page first)
 
 module _ (state : State) (run : Run) where
-  within : (page : ℕ) → is_page_of run page ≡ true → (run.first ≤ page) × (page < run.first + run.count)
-  within page inside =
-      let parts = and_parts (nat_le run.first page) (nat_lt page (run.first + run.count)) inside in
-      (leb-true run.first page parts.0, ltb-true page (run.first + run.count) parts.1)
-
   outside : (page : ℕ) → is_page_of run page ≡ false → run.first ≤ page → page < run.first + run.count → ⊥
   outside page isnt low high = let yes : is_page_of run page ≡ true = and_from _ _ (le-leb run.first page low) (lt-ltb page (run.first + run.count) high) in true≢false (sym yes ∙ isnt)
 
@@ -79,7 +76,7 @@ module _ (state : State) (run : Run) where
         ⊎_elim
         (λ (t : is_page_of run page ≡ true).
         let inside : (is_held state.held page || is_page_of run page) ≡ true = rw t (or-true (is_held state.held page)) in
-        let parts = within page t in
+        let parts = run-ends run page t in
         rw (held, inside, page_bytes-with_zeros state.memory run.first run.count page parts.0 parts.1 fits) long)
         (λ (f : is_page_of run page ≡ false).
         let same : (is_held state.held page || is_page_of run page) ≡ is_held state.held page = rw f (or-false (is_held state.held page)) in
@@ -92,7 +89,7 @@ module _ (state : State) (run : Run) where
         ⊎_elim
         (λ (t : is_page_of run page ≡ true).
         let none : (is_held state.held page && not (is_page_of run page)) ≡ false = rw t (and-false (is_held state.held page)) in
-        let parts = within page t in
+        let parts = run-ends run page t in
         rw (held, none, emptied state.memory run.first run.count page parts.0 parts.1) refl)
         (λ (f : is_page_of run page ≡ false).
         let same : (is_held state.held page && not (is_page_of run page)) ≡ is_held state.held page = rw f (and-true (is_held state.held page)) in
@@ -108,18 +105,19 @@ module _ (state : State) (run : Run) where
 -- ---- bytes that are written
 
 module _ (rules : Rules) (state : State) (is : IsSound rules state) where
+  pub bytes-sound : (address : ℕ) (new : List ℕ) → IsSound rules (record state { memory = with_bytes state.memory address new })
+  bytes-sound address new = record {
+    slots = is.slots;
+    zoned = is.zoned;
+    ascends = is.ascends;
+    arena = is.arena;
+    pages = length-with_bytes state.memory address new ∙ is.pages;
+    bytes = λ page. length-page-with_bytes state.memory address new page ∙ is.bytes page;
+    sound = is.sound;
+  }
+
   pub filled-sound : (byte : ℕ) (extent : Extent) → IsSound rules (filled_with byte extent state)
-  filled-sound byte extent =
-      let new = replicate extent.len byte in
-      record {
-        slots = is.slots;
-        zoned = is.zoned;
-        ascends = is.ascends;
-        arena = is.arena;
-        pages = length-with_bytes state.memory extent.first new ∙ is.pages;
-        bytes = λ page. length-page-with_bytes state.memory extent.first new page ∙ is.bytes page;
-        sound = is.sound;
-      }
+  filled-sound byte extent = bytes-sound extent.first (replicate extent.len byte)
 
   pub written-sound : (address byte : ℕ) → IsSound rules (written address byte state)
   written-sound address byte = filled-sound byte (record { first = address; len = 1 })
@@ -144,7 +142,18 @@ module _ (rules : Rules) (state : State) (is : IsSound rules state) where
   unfolding with_freed_place
   freed-sound place = either (rules.options.junk == 1 || rules.options.junk == 2) _ state (filled-sound freed_byte (extent_of_place place)) is
 
--- ---- junk draws no word
+  pub zeroed-sound : (address : Option ℕ) (size : ℕ) → IsSound rules (zeroed_at address size state)
+  zeroed-sound None size = is
+  zeroed-sound (Some address) size = filled-sound 0 (record { first = address; len = size })
+
+  pub new_data-sound : (block : Block) (size : ℕ) → IsSound rules (with_new_data rules block size state)
+  unfolding with_new_data
+  new_data-sound block size = either (rules.options.junk == 2) _ state (filled-sound fresh_byte (new_data block size)) is
+
+  pub copy-sound : (block : Block) (size to : ℕ) → IsSound rules (with_copy block size to state)
+  copy-sound block size to = bytes-sound to (bytes_at state.memory block.address (min block.size size))
+
+-- ---- what is written draws no word
 
 either-drawn : (test : Bool) (this other : State) → this.drawn ≡ other.drawn → (if test then this else other).drawn ≡ other.drawn
 either-drawn true this other same = same
@@ -165,3 +174,11 @@ freed-drawn rules place state = either-drawn (rules.options.junk == 1 || rules.o
 pub freed_pages-drawn : (rules : Rules) (block : Block) (state : State) → (with_freed_pages rules block state).drawn ≡ state.drawn
 unfolding with_freed_pages
 freed_pages-drawn rules block state = refl
+
+pub zeroed-drawn : (address : Option ℕ) (size : ℕ) (state : State) → (zeroed_at address size state).drawn ≡ state.drawn
+zeroed-drawn None size state = refl
+zeroed-drawn (Some address) size state = refl
+
+pub new_data-drawn : (rules : Rules) (block : Block) (size : ℕ) (state : State) → (with_new_data rules block size state).drawn ≡ state.drawn
+unfolding with_new_data
+new_data-drawn rules block size state = either-drawn (rules.options.junk == 2) (filled_with fresh_byte (new_data block size) state) state refl

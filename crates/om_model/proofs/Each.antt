@@ -1,7 +1,7 @@
 -- What holds of each element of a list, and of each pair, where the list is filtered or gets one more.
-use Rattle.std.proofs.Common.{◌≡◌, ℕ, zero, suc, ◌+◌, ◌<◌, Bool, true, false, ◌||◌, List, [], ◌∷◌, ◌++◌, cond, Some, None, refl, subst, arith}
+use Rattle.std.proofs.Common.{◌≡◌, ℕ, zero, suc, ◌+◌, ◌<◌, ◌≤◌, Bool, true, false, ◌||◌, List, [], ◌∷◌, ◌++◌, cond, Some, None, refl, ap, ◌∙◌, subst, arith}
 use Rattle.std.specs.List.{list_any, filter, find, slice_get, range_with_len, AllByRecursion}
-use Rattle.std.proofs.lemmas.Bool.{cases_Bool, or_left}
+use Rattle.std.proofs.lemmas.Bool.{cases_Bool, cases_eq, or_left}
 use mathlib.Core.Logic.{⊎_elim}
 use Rattle.om_model.specs.Pool.WellFormed.{EachPair}
 
@@ -79,6 +79,15 @@ any-none test (x ∷ xs) all = rw all.0 (any-none test xs all.1)
 pub any-range : (test : ℕ → Bool) (n : ℕ) → 0 < n → test 0 ≡ true → list_any test (range_with_len 0 n) ≡ true
 any-range test zero some passes = absurd (omega arith)
 any-range test (suc n) some passes = or_left (test 0) (list_any test (range_with_len 1 n)) passes
+
+pub none-range : (test : ℕ → Bool) (a n : ℕ) → list_any test (range_with_len a n) ≡ false → (i : ℕ) → a ≤ i → i < a + n → test i ≡ false
+none-range test a zero none i low high = absurd (omega arith)
+none-range test a (suc n) none i low high =
+    let parts = or_none (test a) (list_any test (range_with_len (a + 1) n)) none in
+    ⊎_elim
+    (λ here. ap test here ∙ parts.0)
+    (λ other. none-range test (a + 1) n parts.1 i (omega arith) (omega arith))
+    (cases_eq i a)
 
 -- an element that passes the test, and what holds of each
 pub record Passing {X : Type 0} (test : X → Bool) (P : X → Type 0) : Type 0 where

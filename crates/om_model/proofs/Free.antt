@@ -1,23 +1,25 @@
 -- Free keeps states sound: a place moves from its block to a slot, a page block leaves its pages, and only pages that
--- nothing touches are given up.
-use Rattle.std.proofs.Common.{◌≡◌, ℕ, zero, suc, ◌+◌, ◌*◌, Bool, true, false, not, ◌==◌, ◌<◌, ◌≤◌, if◌then◌else◌, nat_le, nat_lt, List, [], ◌∷◌, ◌++◌, length-set, map, Option, Some, None, slice_set, refl, sym, ap, ◌∙◌, subst, arith}
+-- nothing touches are given up. What stands at an address tells of the live block there.
+use Rattle.std.proofs.Common.{◌≡◌, ℕ, zero, suc, ◌+◌, ◌-◌, ◌*◌, Bool, true, false, not, ◌==◌, ◌<◌, ◌≤◌, if◌then◌else◌, List, [], ◌∷◌, ◌++◌, length-set, map, Option, Some, None, slice_set, refl, sym, ap, ◌∙◌, subst, arith}
 use Rattle.std.specs.List.{find, flat_map, AllByRecursion}
 use Rattle.std.specs.Option.{option_map}
-use Rattle.std.proofs.lemmas.Bool.{cases_Bool, cases_lt, and_from, and_parts, eqb-true, not_from_false, ltb-true, leb-true}
+use Rattle.std.proofs.lemmas.Bool.{cases_Bool, cases_lt, and_from, eqb-true, not_from_false}
 use mathlib.Core.Logic.{⊎_elim}
 use Rattle.om_geom.specs.Addresses.{address_of, page_at, page_extent}
-use Rattle.om_geom.specs.AddressLaws.{SharesByte-true}
+use Rattle.om_geom.specs.AddressLaws.{SharesByte-true, shares_byte-from}
 use Rattle.om_geom.specs.Classes.{data_pages}
 use Rattle.om_geom.specs.FitLaws.{find-passes}
 use Rattle.om_geom.specs.Numbers.{page_size, zone_pages}
 use Rattle.om_model.specs.Pool.Junk.{with_freed_pages}
+use Rattle.om_model.specs.Pool.Malloc.{pages_by_class, pages_for}
+use Rattle.om_model.specs.Pool.Realloc.{left_for}
 use Rattle.om_model.specs.Pool.Rules.{Rules, size_class, guard_pages, block_pages}
 use Rattle.om_model.specs.Pool.Runs.{Run, is_page_of}
 use Rattle.om_model.specs.Pool.State.{State, delayed, drawn_more, holds, without_run, without_pages}
-use Rattle.om_model.specs.Pool.InUse.{Kind, Chunk, Pages, Guard, Use, use_of_place, data_of, guard_of, uses_by_class, uses_of_block, uses, touches, is_free_page, page_kind}
+use Rattle.om_model.specs.Pool.InUse.{Kind, Chunk, Pages, Guard, Use, use_of_place, data_of, guard_of, uses_of_pages, uses_by_class, uses_of_block, uses, touches, is_free_page, page_kind}
 use Rattle.om_model.specs.Pool.Picks.{starts_place}
-use Rattle.om_model.specs.Pool.Standing.{PageBlock, Unaligned, NotHeld, block_at, delayed_at, in_pages, at_place, on_page}
-use Rattle.om_model.specs.Pool.Free.{is_surplus, kept_or_let_go, evicted, without_block, drawn_slot, slot_of, into_slot, put_off, delay, delay_unless, misuse, freed_again, free_at, free}
+use Rattle.om_model.specs.Pool.Standing.{Standing, NotHeld, FreePage, PageBlock, InPageBlock, OnGuard, LivePlace, DelayedPlace, FreePlace, Unaligned, block_at, delayed_at, in_pages, at_place, on_page, standing}
+use Rattle.om_model.specs.Pool.Free.{is_surplus, kept_or_let_go, evicted, without_block, drawn_slot, slot_of, into_slot, put_off, moved_to_slot, delay, delay_unless, misuse, freed_again, without_page_block, free_at, free}
 use Rattle.om_model.specs.Pool.WellFormed.{EachPair, AreAlike, AreApart, AgreeOnPages, FitsZone}
 use Rattle.om_model.specs.declared.block.Block.{Block}
 use Rattle.om_model.specs.declared.block.Place.{Place}
@@ -25,10 +27,10 @@ use Rattle.om_model.specs.declared.reply.Fault.{Fault}
 use Rattle.om_model.proofs.Each.{Across, all-weaker, all-both, all-each, all-append, all-first, all-second, all-filter, all-find, pairs-all, pairs-weaker, pairs-second, pairs-first, pairs-across, pairs-append, pairs-filter}
 use Rattle.om_model.proofs.Flat.{all-flat, all-flat_filter, pairs-flat_filter, across-left}
 use Rattle.om_model.proofs.Bytes.{gone-pages, gone-bytes, freed-sound, freed_pages-sound}
-use Rattle.om_model.proofs.Held.{held-filter}
+use Rattle.om_model.proofs.Held.{held-filter, run-ends}
 use Rattle.om_model.proofs.Sound.{IsPlaced, GoTogether, AreSound, IsSound, shape-begins, touches-first, alike-self, alike-swap, together-swap}
-use Rattle.om_model.proofs.Places.{IsUntouched, not-touched, untouched-free}
-use Rattle.om_model.proofs.Malloc.{drawn_more-sound, guard_count, pages-uses}
+use Rattle.om_model.proofs.Places.{IsUntouched, HasRun, not-touched, untouched-free}
+use Rattle.om_model.proofs.Malloc.{drawn_more-sound, guard_count, pages-uses, some-pages}
 
 -- ---- slots, of which one is set
 
@@ -56,6 +58,9 @@ pairs-slot R new (Some x ∷ slots) (suc k) before after pairs = (all-slot (R (u
 -- nothing in use touches the run's pages
 abbrev pub IsFreeRun : List Use → Run → Type 0
 IsFreeRun used run = (page : ℕ) → is_page_of run page ≡ true → IsUntouched used page
+
+pub run-free : (rules : Rules) (held : List ℕ) (used : List Use) (first count : ℕ) → HasRun rules held used first count → IsFreeRun used (record { first = first; count = count })
+run-free rules held used first count run page within = let ends = run-ends (record { first = first; count = count }) page within in run.untouched page ends.0 ends.1
 
 let_go-sound : (rules : Rules) (state : State) (run : Run) → IsFreeRun (uses rules state) run → IsSound rules state → IsSound rules (without_pages run state)
 let_go-sound rules state run free_is is =
@@ -86,7 +91,7 @@ let_go-sound rules state run free_is is =
       };
     }
 
-kept_or_let_go-sound : (rules : Rules) (state : State) (run : Run) → IsFreeRun (uses rules state) run → IsSound rules state → IsSound rules ((kept_or_let_go rules state run).next)
+pub kept_or_let_go-sound : (rules : Rules) (state : State) (run : Run) → IsFreeRun (uses rules state) run → IsSound rules state → IsSound rules ((kept_or_let_go rules state run).next)
 unfolding kept_or_let_go
 kept_or_let_go-sound rules state run free_is is = ⊎_elim
     (λ surplus. rw surplus (let_go-sound rules state run free_is is))
@@ -96,9 +101,9 @@ kept_or_let_go-sound rules state run free_is is = ⊎_elim
 -- the page, where it is free
 one-page : (page other : ℕ) → is_page_of (record { first = page; count = 1 }) other ≡ true → page ≡ other
 one-page page other within =
-    let parts = and_parts (nat_le page other) (nat_lt other (page + 1)) within in
-    let low = leb-true page other parts.0 in
-    let high = ltb-true other (page + 1) parts.1 in
+    let ends = run-ends (record { first = page; count = 1 }) other within in
+    let low = ends.0 in
+    let high = ends.1 in
     omega arith
 
 evicted-sound : (rules : Rules) (state : State) (slot : Option Place) → IsSound rules state → IsSound rules ((evicted rules state slot).next)
@@ -112,7 +117,11 @@ evicted-sound rules state (Some place) is =
     (λ in_use. rw in_use is)
     (cases_Bool (is_free_page used page))
 
--- what has all bytes of a page leaves none to what is apart from it
+-- what has all bytes of a page touches it
+covers-page : (one : Use) (page : ℕ) → (one.extent).first ≤ address_of page → address_of page + page_size ≤ (one.extent).first + (one.extent).len → touches page one ≡ true
+covers-page one page low high = shares_byte-from (page_extent page) one.extent (address_of page, (omega arith, omega arith), (omega arith, omega arith))
+
+-- and leaves none to what is apart from it
 page-untouched : (one other : Use) (page : ℕ) → (one.extent).first ≤ address_of page → address_of page + page_size ≤ (one.extent).first + (one.extent).len → AreApart one other → touches page other ≡ false
 page-untouched one other page low high apart = ⊎_elim
     (λ touched.
@@ -123,6 +132,11 @@ page-untouched one other page low high apart = ⊎_elim
     (cases_Bool (touches page other))
 
 -- ---- a block that leaves
+
+-- the kind of what a block has first, by its class
+abbrev pub kind_by_class : Option ℕ → Kind
+kind_by_class (Some class) = Chunk class
+kind_by_class None = Pages
 
 -- what gives the page its kind
 pub record HasKind (found : Option Use) (kind : Kind) : Type 0 where
@@ -193,12 +207,44 @@ module _ (rules : Rules) (state : State) (is : IsSound rules state) where
         let P : Use → Type 0 = λ one. touches (page_at address) one ≡ true → AreAlike kind one.kind in
         of-block P (all-first P live_uses old (alike-on_page rules state (page_at address) kind is found))
 
-    block-placed : AllByRecursion (IsPlaced rules state.held) (uses_of_block rules block)
+    pub block-placed : AllByRecursion (IsPlaced rules state.held) (uses_of_block rules block)
     block-placed = let sound = is.sound in of-block (IsPlaced rules state.held) (all-first (IsPlaced rules state.held) live_uses old sound.placed)
+
+    -- what it has, and what is in use without it
+    pub block-together : Across GoTogether (uses_of_block rules block) (uses rules (without_block state address))
+    block-together =
+        all-both (λ one. AllByRecursion (GoTogether one) left) (λ one. AllByRecursion (GoTogether one) old) (λ one. AllByRecursion (GoTogether one) (left ++ old)) (uses_of_block rules block)
+        (λ one. all-append (GoTogether one) left old) left-together old-together
 
     -- it touches the page of the address where it begins
     begins-on : (one : Use) → IsPlaced rules state.held one → (one.extent).first ≡ block.address → touches (page_at address) one ≡ true
     begins-on one on first = let P : ℕ → Type 0 = λ page. touches page one ≡ true in subst P (ap page_at (first ∙ block-here)) (touches-first one on.shape)
+
+    -- ---- its class, by the page on which it begins
+
+    kind-is : (own : Option ℕ) → size_class rules block.size ≡ own → (kind : Kind) → page_kind (uses rules state) (page_at address) ≡ Some kind → AreAlike kind (kind_by_class own)
+    kind-is (Some class) class_is kind found =
+        let uses_is = ap (uses_by_class rules block) class_is in
+        let placed = subst (AllByRecursion (IsPlaced rules state.held)) uses_is block-placed in
+        (subst (AllByRecursion (λ one. touches (page_at address) one ≡ true → AreAlike kind one.kind)) uses_is (alike-block kind found)).0 (begins-on _ placed.0 refl)
+    kind-is None none kind found =
+        let uses_is = pages-uses rules block.size none block.address block.site in
+        let placed = subst (AllByRecursion (IsPlaced rules state.held)) uses_is block-placed in
+        (subst (AllByRecursion (λ one. touches (page_at address) one ≡ true → AreAlike kind one.kind)) uses_is (alike-block kind found)).0 (begins-on _ placed.0 refl)
+
+    pub class-of_chunk : (class : ℕ) → page_kind (uses rules state) (page_at address) ≡ Some (Chunk class) → size_class rules block.size ≡ Some class
+    class-of_chunk class found = by (size_class rules block.size) (kind-is (size_class rules block.size) refl (Chunk class) found)
+      where
+        by : (own : Option ℕ) → AreAlike (Chunk class) (kind_by_class own) → own ≡ Some class
+        by (Some other) same = ap Some (sym same)
+        by None isnt = absurd isnt
+
+    pub class-of_pages : page_kind (uses rules state) (page_at address) ≡ Some Pages → size_class rules block.size ≡ None
+    class-of_pages found = by (size_class rules block.size) (kind-is (size_class rules block.size) refl Pages found)
+      where
+        by : (own : Option ℕ) → AreAlike Pages (kind_by_class own) → own ≡ None
+        by (Some class) isnt = absurd isnt
+        by None both = refl
 
     pub without-sound : IsSound rules (without_block state address)
     without-sound =
@@ -218,154 +264,201 @@ module _ (rules : Rules) (state : State) (is : IsSound rules state) where
 
     -- ---- a live place is put off
 
-    module _ (one : Use) (one_is : uses_of_block rules block ≡ one ∷ []) (place : Place) (same : one ≡ use_of_place place) (slot : ℕ) where
+    module _ (class slot : ℕ) (class_is : size_class rules block.size ≡ Some class) where
+      abbrev own_place : Place
+      own_place = record { address = address; class = class }
+
       abbrev later : List Use
-      later = waiting (slice_set state.slots slot (Some place))
+      later = waiting (slice_set state.slots slot (Some own_place))
 
       slot-sound : AreSound rules state.held (left ++ later)
       slot-sound =
           let sound = is.sound in
-          let new = use_of_place place in
+          let new = use_of_place own_place in
           let P : Use → Type 0 = IsPlaced rules state.held in
           let R : Use → Use → Type 0 = GoTogether in
-          let uses_is : uses_of_block rules block ≡ new ∷ [] = one_is ∙ ap (λ u. u ∷ []) same in
+          let uses_is : uses_of_block rules block ≡ new ∷ [] =
+          ap (uses_by_class rules block) class_is ∙ ap (λ a. use_of_place (record { address = a; class = class }) ∷ []) block-here in
           let here : P new = (subst (AllByRecursion P) uses_is block-placed).0 in
           let to_left : AllByRecursion (R new) left = (subst (λ us. Across R us left) uses_is left-together).0 in
           let to_old : AllByRecursion (R new) old = (subst (λ us. Across R us old) uses_is old-together).0 in
           let back : (xs : List Use) → AllByRecursion (R new) xs → AllByRecursion (λ x. R x new) xs = λ xs. all-weaker (R new) (λ x. R x new) xs (λ x. together-swap new x) in
           record {
-            placed = all-append P left later placed-left (all-slot P place state.slots slot here (all-second P live_uses old sound.placed));
+            placed = all-append P left later placed-left (all-slot P own_place state.slots slot here (all-second P live_uses old sound.placed));
             together = pairs-append R left later pairs-left
-                (pairs-slot R place state.slots slot to_old (back old to_old) (pairs-second R live_uses old sound.together))
-                (all-both (λ x. AllByRecursion (R x) old) (λ x. R x new) (λ x. AllByRecursion (R x) later) left (λ x all first. all-slot (R x) place state.slots slot first all) across-old (back left to_left));
+                (pairs-slot R own_place state.slots slot to_old (back old to_old) (pairs-second R live_uses old sound.together))
+                (all-both (λ x. AllByRecursion (R x) old) (λ x. R x new) (λ x. AllByRecursion (R x) later) left (λ x all first. all-slot (R x) own_place state.slots slot first all) across-old (back left to_left));
           }
 
-    delay-by : (class slot : ℕ) (own : Option ℕ) → size_class rules block.size ≡ own → page_kind (uses rules state) (page_at address) ≡ Some (Chunk class)
-        → AreSound rules state.held (left ++ waiting (slice_set state.slots slot (Some (record { address = address; class = class }))))
-    delay-by class slot None none found =
-        let uses_is = pages-uses rules block.size none block.address block.site in
-        let placed = subst (AllByRecursion (IsPlaced rules state.held)) uses_is block-placed in
-        let alike = subst (AllByRecursion (λ one. touches (page_at address) one ≡ true → AreAlike (Chunk class) one.kind)) uses_is (alike-block (Chunk class) found) in
-        absurd (alike.0 (begins-on _ placed.0 refl))
-    delay-by class slot (Some other) is_class found =
-        let uses_is = ap (uses_by_class rules block) is_class in
-        let place : Place = record { address = block.address; class = other } in
-        let placed = subst (AllByRecursion (IsPlaced rules state.held)) uses_is block-placed in
-        let alike = subst (AllByRecursion (λ one. touches (page_at address) one ≡ true → AreAlike (Chunk class) one.kind)) uses_is (alike-block (Chunk class) found) in
-        let same : class ≡ other = alike.0 (begins-on (use_of_place place) placed.0 refl) in
-        slot-sound (use_of_place place) uses_is (record { address = address; class = class })
-        (ap (λ a. use_of_place (record { address = a; class = other })) block-here ∙ ap (λ c. use_of_place (record { address = address; class = c })) (sym same)) slot
+      -- the place enters a slot
+      place_leaves-sound : IsSound rules (into_slot state slot own_place)
+      place_leaves-sound = record {
+        slots = length-set state.slots slot (Some own_place) ∙ is.slots;
+        zoned = all-filter (FitsZone rules) (λ other. not (begins_here other)) state.live is.zoned;
+        ascends = is.ascends;
+        arena = is.arena;
+        pages = is.pages;
+        bytes = is.bytes;
+        sound = slot-sound;
+      }
 
-    -- the place enters a slot
+      moved_to_slot-sound : IsSound rules ((moved_to_slot rules state slot own_place).next)
+      moved_to_slot-sound =
+          evicted-sound rules (put_off rules state slot own_place) (slot_of state slot) (freed-sound rules (into_slot state slot own_place) place_leaves-sound own_place)
+
     pub into_slot-sound : (class slot : ℕ) → page_kind (uses rules state) (page_at address) ≡ Some (Chunk class) → IsSound rules (into_slot state slot (record { address = address; class = class }))
-    into_slot-sound class slot found = record {
-      slots = length-set state.slots slot (Some (record { address = address; class = class })) ∙ is.slots;
-      zoned = all-filter (FitsZone rules) (λ other. not (begins_here other)) state.live is.zoned;
-      ascends = is.ascends;
-      arena = is.arena;
-      pages = is.pages;
-      bytes = is.bytes;
-      sound = delay-by class slot (size_class rules block.size) refl found;
-    }
+    into_slot-sound class slot found = place_leaves-sound class slot (class-of_chunk class found)
 
-    delay-sound : (class : ℕ) → page_kind (uses rules state) (page_at address) ≡ Some (Chunk class) → IsSound rules ((delay rules state (record { address = address; class = class })).next)
-    unfolding delay
-    delay-sound class found =
-        let place : Place = record { address = address; class = class } in
-        let slot = drawn_slot rules state in
-        evicted-sound rules (put_off rules (drawn_more 1 state) slot place) (slot_of state slot)
-        (freed-sound rules (into_slot (drawn_more 1 state) slot place) (drawn_more-sound rules 1 (into_slot state slot place) (into_slot-sound class slot found)) place)
+-- ---- the pages of a page block
 
-    -- ---- a page block becomes free
+module _ (rules : Rules) (state : State) (is : IsSound rules state) (block : Block) (live : block_at state block.address ≡ Some block) (none : size_class rules block.size ≡ None) where
+  abbrev first : ℕ
+  first = page_at block.address
 
-    abbrev run : Run
-    run = record { first = page_at address; count = block_pages rules block.size }
+  abbrev count : ℕ
+  count = block_pages rules block.size
 
-    -- what is apart from a page block's data and from its guard touches none of its pages
-    block-untouched : (guards : Bool) → rules.options.guard ≡ guards → (used : List Use) → address ≡ address_of (page_at address)
-        → Across GoTogether (record { extent = data_of block; kind = Pages } ∷ (if guards then record { extent = guard_of block; kind = Guard } ∷ [] else [])) used → IsFreeRun used run
-    block-untouched guards is_guard used at together page within =
-        let parts = and_parts (nat_le run.first page) (nat_lt page (run.first + run.count)) within in
-        let low = leb-true run.first page parts.0 in
-        let high = ltb-true page (run.first + run.count) parts.1 in
-        let data_use : Use = record { extent = data_of block; kind = Pages } in
-        let here = block-here in
-        ⊎_elim
-        (λ below. all-weaker (GoTogether data_use) (λ one. touches page one ≡ false) used
-        (λ one both. page-untouched data_use one page (omega arith) (omega arith) both.apart) together.0)
-        (λ past. behind guards is_guard together.1 past high)
-        (cases_lt page (run.first + data_pages block.size))
-      where
-        behind : (some : Bool) → rules.options.guard ≡ some → Across GoTogether (if some then record { extent = guard_of block; kind = Guard } ∷ [] else []) used
-            → page_at address + data_pages block.size ≤ page → page < page_at address + block_pages rules block.size → AllByRecursion (λ one. touches page one ≡ false) used
-        behind false is_some others past high = let count : guard_pages rules ≡ 0 = ap guard_count is_some in absurd (omega arith)
-        behind true is_some others past high =
-            let count : guard_pages rules ≡ 1 = ap guard_count is_some in
-            let guard_use : Use = record { extent = guard_of block; kind = Guard } in
-            let here = block-here in
-            all-weaker (GoTogether guard_use) (λ one. touches page one ≡ false) used
-            (λ one both. page-untouched guard_use one page (omega arith) (omega arith) both.apart) others.0
+  uses_is : uses_of_block rules block ≡ uses_of_pages rules block
+  uses_is = pages-uses rules block.size none block.address block.site
 
-    pub pages-by : (own : Option ℕ) → size_class rules block.size ≡ own → page_kind (uses rules state) (page_at address) ≡ Some Pages → IsFreeRun (uses rules (without_block state address)) run
-    pages-by (Some class) is_class found =
-        let uses_is = ap (uses_by_class rules block) is_class in
-        let placed = subst (AllByRecursion (IsPlaced rules state.held)) uses_is block-placed in
-        let alike = subst (AllByRecursion (λ one. touches (page_at address) one ≡ true → AreAlike Pages one.kind)) uses_is (alike-block Pages found) in
-        absurd (alike.0 (begins-on _ placed.0 refl))
-    pages-by None none found =
-        let uses_is = pages-uses rules block.size none block.address block.site in
-        let placed = (subst (AllByRecursion (IsPlaced rules state.held)) uses_is block-placed).0 in
-        let at : block.address ≡ address_of (page_at block.address) = shape-begins (record { extent = data_of block; kind = Pages }) placed.shape in
-        let At : ℕ → Type 0 = λ a. a ≡ address_of (page_at a) in
-        let together : Across GoTogether (uses_of_block rules block) (left ++ old) =
-        all-both (λ one. AllByRecursion (GoTogether one) left) (λ one. AllByRecursion (GoTogether one) old) (λ one. AllByRecursion (GoTogether one) (left ++ old)) (uses_of_block rules block)
-        (λ one. all-append (GoTogether one) left old) left-together old-together in
-        block-untouched rules.options.guard refl (left ++ old) (subst At block-here at) (subst (λ us. Across GoTogether us (left ++ old)) uses_is together)
+  pages-placed : AllByRecursion (IsPlaced rules state.held) (uses_of_pages rules block)
+  pages-placed = subst (AllByRecursion (IsPlaced rules state.held)) uses_is (block-placed rules state is block.address block live)
 
-    pages-sound : page_kind (uses rules state) (page_at address) ≡ Some Pages → IsSound rules ((free_at rules state address (PageBlock block)).next)
-    unfolding with_freed_pages
-    pages-sound found =
-        let Sound : ℕ → Type 0 = λ a. IsSound rules ((kept_or_let_go rules (with_freed_pages rules block (without_block state a)) (record { first = page_at a; count = block_pages rules block.size })).next) in
-        subst Sound (sym block-here)
-        (kept_or_let_go-sound rules (with_freed_pages rules block (without_block state address)) run (pages-by (size_class rules block.size) refl found)
-        (freed_pages-sound rules (without_block state address) without-sound block))
+  -- it begins where a page does
+  pub page_block-at : block.address ≡ address_of first
+  page_block-at = let on = pages-placed.0 in shape-begins (record { extent = data_of block; kind = Pages }) on.shape
 
-  -- ---- by what stands at the address
+  -- one of what it has, of which this is so, has all bytes of the page
+  record HasPage (Q : Use → Type 0) (page : ℕ) : Type 0 where
+    one : Use
+    holds : Q one
+    low : (one.extent).first ≤ address_of page
+    high : address_of page + page_size ≤ (one.extent).first + (one.extent).len
 
-  module _ (address : ℕ) where
-    again-sound : IsSound rules ((freed_again rules state address).next)
-    unfolding freed_again
-    again-sound = drawn_more-sound rules 1 state is
+  page-of : (Q : Use → Type 0) → AllByRecursion Q (uses_of_pages rules block) → (page : ℕ) → first ≤ page → page < first + count → HasPage Q page
+  page-of Q all page low high =
+      let at = page_block-at in
+      ⊎_elim
+      (λ below. record { one = record { extent = data_of block; kind = Pages }; holds = all.0; low = omega arith; high = omega arith })
+      (λ past. behind rules.options.guard refl all.1 past)
+      (cases_lt page (first + data_pages block.size))
+    where
+      behind : (some : Bool) → rules.options.guard ≡ some → AllByRecursion Q (if some then record { extent = guard_of block; kind = Guard } ∷ [] else []) → first + data_pages block.size ≤ page → HasPage Q page
+      behind false guards others past = let nothing : guard_pages rules ≡ 0 = ap guard_count guards in absurd (omega arith)
+      behind true guards others past =
+          let at = page_block-at in
+          let some : guard_pages rules ≡ 1 = ap guard_count guards in
+          record { one = record { extent = guard_of block; kind = Guard }; holds = others.0; low = omega arith; high = omega arith }
 
-    unless-sound : (class : ℕ) (block : Block) (found : Option Fault) → page_kind (uses rules state) (page_at address) ≡ Some (Chunk class) → block_at state address ≡ Some block
-        → IsSound rules ((delay_unless found rules state (record { address = address; class = class })).next)
-    unless-sound class block (Some fault) found live_is = drawn_more-sound rules 1 state is
-    unless-sound class block None found live_is = delay-sound address block live_is class found
+  -- its pages with the guard, where it is gone
+  pub own_run : HasRun rules state.held (uses rules (without_block state block.address)) first count
+  own_run =
+      let after = uses rules (without_block state block.address) in
+      let Placed : Use → Type 0 = IsPlaced rules state.held in
+      let Apart : Use → Type 0 = λ one. AllByRecursion (GoTogether one) after in
+      let apart : AllByRecursion Apart (uses_of_pages rules block) = subst (AllByRecursion Apart) uses_is (block-together rules state is block.address block live) in
+      let zoned = all-find (FitsZone rules) (λ (b : Block). b.address == block.address) state.live block is.zoned live in
+      let within = zoned.within in
+      let same : pages_for rules block.size ≡ count = ap (pages_by_class rules block.size) none in
+      let some = some-pages rules block.size none in
+      let last = page-of Placed pages-placed (first + count - 1) (omega arith) (omega arith) in
+      let below = (last.holds).there (first + count - 1) (covers-page last.one (first + count - 1) last.low last.high) in
+      record {
+        held_is = λ page low high. let on = page-of Placed pages-placed page low high in (on.holds).held_is page (covers-page on.one page on.low on.high);
+        there = omega arith;
+        untouched = λ page low high.
+            let on = page-of Apart apart page low high in
+            all-weaker (GoTogether on.one) (λ other. touches page other ≡ false) after (λ other both. page-untouched on.one other page on.low on.high both.apart) on.holds;
+        zone = omega arith;
+      }
 
-    place-sound : (class : ℕ) (live : Option Block) (put : Option Place) → page_kind (uses rules state) (page_at address) ≡ Some (Chunk class) → block_at state address ≡ live
-        → IsSound rules ((free_at rules state address (at_place class address live put)).next)
-    place-sound class live (Some place) found live_is = again-sound
-    place-sound class (Some block) None found live_is = unless-sound class block (misuse rules state block) found live_is
-    place-sound class None None found live_is = is
+  page_block_leaves-sound : IsSound rules ((without_page_block rules state block).next)
+  unfolding with_freed_pages
+  page_block_leaves-sound =
+      let left = without_block state block.address in
+      kept_or_let_go-sound rules (with_freed_pages rules block left) (record { first = first; count = count }) (run-free rules state.held (uses rules left) first count own_run)
+      (freed_pages-sound rules left (without-sound rules state is block.address block live) block)
 
-    start-sound : (class : ℕ) (starts : Bool) → page_kind (uses rules state) (page_at address) ≡ Some (Chunk class)
-        → IsSound rules ((free_at rules state address (if starts then at_place class address (block_at state address) (delayed_at state address) else Unaligned)).next)
-    start-sound class true found = place-sound class (block_at state address) (delayed_at state address) found refl
-    start-sound class false found = is
+-- ---- the live block at an address
 
-    in-pages-sound : (live : Option Block) → block_at state address ≡ live → page_kind (uses rules state) (page_at address) ≡ Some Pages → IsSound rules ((free_at rules state address (in_pages live)).next)
-    in-pages-sound None live_is found = is
-    in-pages-sound (Some block) live_is found = pages-sound address block live_is found
+-- the block is a chunk at the place, or one of whole pages where there is none
+abbrev pub IsPlaceOf : Rules → Block → Option Place → Type 0
+IsPlaceOf rules block (Some place) = (place.address ≡ block.address) × (size_class rules block.size ≡ Some place.class)
+IsPlaceOf rules block None = size_class rules block.size ≡ None
 
-    kind-sound : (kind : Option Kind) → page_kind (uses rules state) (page_at address) ≡ kind → IsSound rules ((free_at rules state address (on_page state address kind)).next)
-    kind-sound None found = is
-    kind-sound (Some Pages) found = in-pages-sound (block_at state address) refl found
-    kind-sound (Some Guard) found = is
-    kind-sound (Some (Chunk class)) found = start-sound class (starts_place class address) found
+-- the block is the one that begins at its address
+pub record IsLive (rules : Rules) (state : State) (block : Block) (place : Option Place) : Type 0 where
+  pub live : block_at state block.address ≡ Some block
+  pub has : IsPlaceOf rules block place
 
-    held-sound : (held : Bool) → IsSound rules ((free_at rules state address (if held then on_page state address (page_kind (uses rules state) (page_at address)) else NotHeld)).next)
-    held-sound true = kind-sound (page_kind (uses rules state) (page_at address)) refl
-    held-sound false = is
+-- it leaves, a place for the slot
+pub left_for-sound : (rules : Rules) (state next : State) → IsSound rules next → (block : Block) (place : Option Place) → IsLive rules next block place → IsSound rules ((left_for rules state block place next).next)
+left_for-sound rules state next is block (Some place) on =
+    let slot = drawn_slot rules state in
+    let Sound : ℕ → Type 0 = λ a. IsSound rules ((moved_to_slot rules next slot (record { address = a; class = place.class })).next) in
+    subst Sound (sym (on.has).0) (moved_to_slot-sound rules next is block.address block on.live place.class slot (on.has).1)
+left_for-sound rules state next is block None on = page_block_leaves-sound rules next is block on.live on.has
 
-    pub free-sound : IsSound rules ((free rules state address).next)
-    free-sound = held-sound (holds rules state address)
+-- what a standing tells of the live block there
+abbrev pub Tells : Rules → State → Standing → Type 0
+Tells rules state (PageBlock block) = IsLive rules state block None
+Tells rules state (LivePlace place block) = IsLive rules state block (Some place)
+Tells rules state other = Unit {0}
+
+module _ (rules : Rules) (state : State) (is : IsSound rules state) (address : ℕ) where
+  here : (block : Block) → block_at state address ≡ Some block → address ≡ block.address
+  here block live = sym (eqb-true block.address address (find-passes (λ b. b.address == address) state.live block live))
+
+  still : (block : Block) → block_at state address ≡ Some block → block_at state block.address ≡ Some block
+  still block live = subst (λ a. block_at state a ≡ Some block) (here block live) live
+
+  place-tells : (class : ℕ) (live : Option Block) (put : Option Place) → page_kind (uses rules state) (page_at address) ≡ Some (Chunk class) → block_at state address ≡ live → Tells rules state (at_place class address live put)
+  place-tells class live (Some place) found live_is = tt
+  place-tells class (Some block) None found live_is = record { live = still block live_is; has = (here block live_is, class-of_chunk rules state is address block live_is class found) }
+  place-tells class None None found live_is = tt
+
+  start-tells : (class : ℕ) (starts : Bool) → page_kind (uses rules state) (page_at address) ≡ Some (Chunk class)
+      → Tells rules state (if starts then at_place class address (block_at state address) (delayed_at state address) else Unaligned)
+  start-tells class true found = place-tells class (block_at state address) (delayed_at state address) found refl
+  start-tells class false found = tt
+
+  pages-tell : (live : Option Block) → block_at state address ≡ live → page_kind (uses rules state) (page_at address) ≡ Some Pages → Tells rules state (in_pages live)
+  pages-tell None live_is found = tt
+  pages-tell (Some block) live_is found = record { live = still block live_is; has = class-of_pages rules state is address block live_is found }
+
+  kind-tells : (kind : Option Kind) → page_kind (uses rules state) (page_at address) ≡ kind → Tells rules state (on_page state address kind)
+  kind-tells None found = tt
+  kind-tells (Some Pages) found = pages-tell (block_at state address) refl found
+  kind-tells (Some Guard) found = tt
+  kind-tells (Some (Chunk class)) found = start-tells class (starts_place class address) found
+
+  pub standing-tells : Tells rules state (standing rules state address)
+  standing-tells = by (holds rules state address)
+    where
+      by : (held : Bool) → Tells rules state (if held then on_page state address (page_kind (uses rules state) (page_at address)) else NotHeld)
+      by true = kind-tells (page_kind (uses rules state) (page_at address)) refl
+      by false = tt
+
+-- ---- free
+
+module _ (rules : Rules) (state : State) (is : IsSound rules state) where
+  delay-sound : (block : Block) (place : Place) (found : Option Fault) → IsLive rules state block (Some place) → IsSound rules ((delay_unless found rules state place).next)
+  unfolding delay
+  delay-sound block place (Some fault) on = drawn_more-sound rules 1 state is
+  delay-sound block place None on =
+      left_for-sound rules state (drawn_more 1 state) (drawn_more-sound rules 1 state is) block (Some place) (record { live = on.live; has = on.has })
+
+  pub free_at-sound : (address : ℕ) (stands : Standing) → Tells rules state stands → IsSound rules ((free_at rules state address stands).next)
+  unfolding freed_again
+  free_at-sound address NotHeld told = is
+  free_at-sound address FreePage told = is
+  free_at-sound address (PageBlock block) told = left_for-sound rules state state is block None told
+  free_at-sound address InPageBlock told = is
+  free_at-sound address OnGuard told = is
+  free_at-sound address (LivePlace place block) told = delay-sound block place (misuse rules state block) told
+  free_at-sound address (DelayedPlace place) told = drawn_more-sound rules 1 state is
+  free_at-sound address FreePlace told = is
+  free_at-sound address Unaligned told = is
+
+  pub free-sound : (address : ℕ) → IsSound rules ((free rules state address).next)
+  free-sound address = free_at-sound address (standing rules state address) (standing-tells rules state is address)

@@ -1,7 +1,7 @@
 -- Held pages ascend. What holds of them stays where a run of pages comes in or goes.
 use Rattle.std.proofs.Common.{◌≡◌, ℕ, zero, suc, ◌+◌, ◌<◌, ◌≤◌, Bool, true, false, not, ◌&&◌, ◌||◌, nat_eq, nat_le, nat_lt, List, [], ◌∷◌, ◌++◌, cond, refl, sym, ap, ◌∙◌, arith, eq-eqb}
 use Rattle.std.specs.List.{filter, range_with_len, AllByRecursion}
-use Rattle.std.proofs.lemmas.Bool.{eqb-true, leb-true, or_left, or_right, ltb-true}
+use Rattle.std.proofs.lemmas.Bool.{and_parts, eqb-true, leb-true, or_left, or_right, ltb-true}
 use Rattle.std.proofs.lemmas.Bool.Decides.{nat_tests}
 use Rattle.std.proofs.lemmas.List.Folds.{list_any-append}
 use Rattle.std.proofs.Math.Bool.{and-false}
@@ -47,6 +47,12 @@ held-below [] bound page below past = refl
 held-below (x ∷ xs) bound page below past = let other : nat_eq page x ≡ false = grind (arith, nat_tests, below.0) in rw other (held-below xs bound page below.1 past)
 
 -- ---- runs of pages
+
+-- a page of a run lies between its ends
+pub run-ends : (run : Run) (page : ℕ) → is_page_of run page ≡ true → (run.first ≤ page) × (page < run.first + run.count)
+run-ends run page inside =
+    let parts = and_parts (nat_le run.first page) (nat_lt page (run.first + run.count)) inside in
+    (leb-true run.first page parts.0, ltb-true page (run.first + run.count) parts.1)
 
 all-from : (first count : ℕ) → AllByRecursion (λ page. first ≤ page) (range_with_len first count)
 all-from first zero = tt

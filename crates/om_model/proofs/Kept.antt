@@ -1,5 +1,5 @@
--- Well-formed states are sound: what begins where a place does is one, and what begins where a page does is whole pages.
--- So each step, of every size, keeps states well formed.
+-- Well-formed states are sound: what begins where a place does is one, and what begins where a page does is whole
+-- pages. So each step, of every size, keeps states well formed.
 use Rattle.std.proofs.Common.{◌≡◌, ℕ, ◌+◌, ◌-◌, ◌*◌, ◌/◌, ◌%◌, ◌<◌, ◌≤◌, inl, inr, Bool, true, false, nat_eq, nat_le, nat_lt, if◌then◌else◌, List, [], ◌∷◌, map, Option, Some, None, IsTrue, refl, sym, ap, ◌∙◌, arith}
 use Rattle.std.specs.List.{flat_map, AllByRecursion}
 use Rattle.std.proofs.lemmas.Bool.{and_parts, eqb-true, leb-true, ltb-true}
@@ -15,7 +15,9 @@ use Rattle.om_model.specs.Pool.InUse.{Guard, Use, guard_of, use_of_place, uses_b
 use Rattle.om_model.specs.Pool.Picks.{place_address}
 use Rattle.om_model.specs.Pool.Steps.{Answers}
 use Rattle.om_model.specs.Pool.Malloc.{malloc_wish, malloc}
+use Rattle.om_model.specs.Pool.Calloc.{calloc_wish, calloc}
 use Rattle.om_model.specs.Pool.Free.{free}
+use Rattle.om_model.specs.Pool.Realloc.{realloc_wish, realloc, reallocarray_wish, reallocarray}
 use Rattle.om_model.specs.Pool.Access.{barred, store}
 use Rattle.om_model.specs.Pool.Journal.{MayAnswer}
 use Rattle.om_model.specs.Pool.WellFormed.{AreApart, AgreeOnPages, BeginsRight, LiesOn, IsWellFormed}
@@ -23,8 +25,9 @@ use Rattle.om_model.specs.declared.block.Block.{Block}
 use Rattle.om_model.specs.declared.block.Place.{Place}
 use Rattle.om_model.proofs.Each.{all-both, all-append, all-first, all-second, pairs-both}
 use Rattle.om_model.proofs.Sound.{IsPlace, HasShape, IsPlaced, GoTogether, IsSound, first_of, well-formed}
-use Rattle.om_model.proofs.Malloc.{malloc-sound, some-pages}
+use Rattle.om_model.proofs.Malloc.{calloc-sound, malloc-sound, some-pages}
 use Rattle.om_model.proofs.Free.{free-sound}
+use Rattle.om_model.proofs.Realloc.{realloc-sound, reallocarray-sound}
 use Rattle.om_model.proofs.Lawful.{store-sound}
 
 module _ (rules : Rules) (state : State) where
@@ -134,6 +137,16 @@ module _ (rules : Rules) (state : State) where
 
   pub malloc-kept : (size site : ℕ) (answers : Answers) → MayAnswer rules state (malloc_wish rules state size) answers → IsWellFormed rules state → IsWellFormed rules ((malloc rules state size site answers.claim).next)
   malloc-kept size site answers may is = well-formed rules _ (malloc-sound rules size state site answers may (sound is))
+
+  pub calloc-kept : (count size site : ℕ) (answers : Answers) → MayAnswer rules state (calloc_wish rules state count size) answers → IsWellFormed rules state → IsWellFormed rules ((calloc rules state count size site answers.claim).next)
+  calloc-kept count size site answers may is = well-formed rules _ (calloc-sound rules state count size site answers may (sound is))
+
+  pub realloc-kept : (address size site : ℕ) (answers : Answers) → MayAnswer rules state (realloc_wish rules state address size) answers → IsWellFormed rules state → IsWellFormed rules ((realloc rules state address size site answers).next)
+  realloc-kept address size site answers may is = well-formed rules _ (realloc-sound rules state (sound is) address size site answers may)
+
+  pub reallocarray-kept : (address count size site : ℕ) (answers : Answers) → MayAnswer rules state (reallocarray_wish rules state address count size) answers → IsWellFormed rules state
+      → IsWellFormed rules ((reallocarray rules state address count size site answers).next)
+  reallocarray-kept address count size site answers may is = well-formed rules _ (reallocarray-sound rules state (sound is) address count size site answers may)
 
   pub free-kept : (address : ℕ) → IsWellFormed rules state → IsWellFormed rules ((free rules state address).next)
   free-kept address is = well-formed rules _ (free-sound rules state (sound is) address)

@@ -10,6 +10,7 @@ pub mod Kept
 pub mod LateWrites
 pub mod Lawful
 pub mod Lists
+pub mod LiveBlocks
 pub mod Malloc
 pub mod OrderedMoves
 pub mod PageKinds
@@ -18,9 +19,12 @@ pub mod PlainCalls
 pub mod PlainExtents
 pub mod PlainJournals
 pub mod PlainMemory
+pub mod PlainResizing
 pub mod PlainText
 pub mod PlainValues
+pub mod Realloc
 pub mod SecondFree
 pub mod Sound
 pub mod Steps
 pub mod Titles
+pub mod Ways

@@ -1,8 +1,8 @@
 -- Lists, item by item: the items so far and one more, and items with their numbers.
-use Rattle.std.proofs.Common.{◌≡◌, ℕ, zero, suc, ◌+◌, ◌≤◌, Some, List, [], ◌∷◌, ◌++◌, length, take, sym, ◌∙◌, ap, arith, zero-add}
-use Rattle.std.specs.List.{flat_map, slice_get, enumerate_from}
+use Rattle.std.proofs.Common.{◌≡◌, ℕ, zero, suc, ◌+◌, ◌≤◌, Some, List, [], ◌∷◌, ◌++◌, length, map, take, refl, sym, ◌∙◌, ap, arith, zero-add}
+use Rattle.std.specs.List.{flat_map, slice_get, enumerate_from, range_with_len}
 use Rattle.std.specs.Option.{option_map}
-use Rattle.std.proofs.lemmas.List.FromFn.{length-enumerate_from}
+use Rattle.std.proofs.lemmas.List.FromFn.{length-enumerate_from, map-range_with_len_more}
 use Rattle.std.proofs.lemmas.List.{flat_map_more, take_all}
 
 -- the items so far, and the next
@@ -18,6 +18,12 @@ pub flat_map_next : {X : Type 0} (f : X → List ℕ) (before : List ℕ) (xs : 
     slice_get xs i ≡ Some x → (before ++ flat_map f (take i xs)) ++ f x ≡ before ++ flat_map f (take (i + 1) xs)
 flat_map_next f before xs i x at =
     rw (take_next xs i x at) (flat_map_more f before (take i xs) x)
+
+-- what the numbers of a range so far give, and the next
+pub range_next : {X : Type 0} (f : ℕ → X) (first i : ℕ) (before after : List X) (x : X) → after ≡ before ++ x ∷ [] → before ≡ map f (range_with_len first i) → x ≡ f (first + i)
+    → after ≡ map f (range_with_len first (i + 1))
+range_next f first i before after x pushed so_far is =
+    pushed ∙ ap (λ xs. xs ++ x ∷ []) so_far ∙ ap (λ y. map f (range_with_len first i) ++ y ∷ []) is ∙ sym (map-range_with_len_more f first i (first + i) refl)
 
 -- ---- items with their numbers
 

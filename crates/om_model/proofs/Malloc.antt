@@ -17,10 +17,12 @@ use Rattle.om_model.specs.Pool.Runs.{Run, run_of}
 use Rattle.om_model.specs.Pool.State.{State, delayed, drawn_more, is_held, with_run, with_pages}
 use Rattle.om_model.specs.Pool.InUse.{Pages, Guard, Use, use_of_place, data_of, guard_of, uses_of_pages, uses_by_class, uses_of_block, uses, touches}
 use Rattle.om_model.specs.Pool.Picks.{own_page, picked_place, place_address}
-use Rattle.om_model.specs.Pool.Steps.{Nothing, Answers, unchanged, null_or_fault}
+use Rattle.om_model.specs.Pool.Steps.{Wish, Nothing, Answers, Step, unchanged, null_or_fault}
+use Rattle.om_model.specs.Pool.Product.{product}
+use Rattle.om_model.specs.Pool.Calloc.{zeroed, zeroed_block, calloc_wish_of, calloc_of, calloc_wish, calloc}
 use Rattle.om_model.specs.Pool.Canaries.{with_canaries}
 use Rattle.om_model.specs.Pool.Junk.{with_fresh_junk}
-use Rattle.om_model.specs.Pool.Malloc.{pages_by_class, pages_for, words_by_class, words_for, is_too_large, page_by_class, page_for, search_unless, placing_wish, with_block, address_on, placed_on, placed_by_claim, placed_where, placing, malloc_wish, block_placed, malloc}
+use Rattle.om_model.specs.Pool.Malloc.{pages_by_class, pages_for, words_by_class, words_for, is_too_large, page_by_class, page_for, search_unless, placing_wish, with_block, address_on, placed_on, placed_by_claim, placed_where, placing, malloc_wish, block_placed, unless_too_large, malloc}
 use Rattle.om_model.specs.Pool.Journal.{IsFound, EndsSearch, MayAnswer}
 use Rattle.om_model.specs.Pool.WellFormed.{EachPair, FitsZone}
 use Rattle.om_model.specs.declared.block.Block.{Block}
@@ -28,15 +30,15 @@ use Rattle.om_model.specs.declared.entry.Move.{Move}
 use Rattle.om_model.specs.declared.reply.Why.TheVariants.{TooLarge}
 use Rattle.om_model.proofs.Each.{Across, all-weaker, all-each, all-append, all-between, pairs-between}
 use Rattle.om_model.proofs.Held.{held-in_run, held-still, all-with_run, ascends-with_run}
-use Rattle.om_model.proofs.Bytes.{canary-sound, come-pages, come-bytes, fresh-sound}
+use Rattle.om_model.proofs.Bytes.{canary-sound, come-pages, come-bytes, fresh-sound, zeroed-sound}
 use Rattle.om_model.proofs.Sound.{IsPlaced, IsWhole, GoTogether, AreSound, IsSound, place_of, whole-touched, apart-pages, together-swap}
 use Rattle.om_model.proofs.Places.{IsUntouched, HasRun, Serves, not-touched, serves-run, serves-own, run-own, picked, picked-placed, picked-together}
 
 -- what comes into use with a block: placed, and apart from all that is in use
-record Enters (rules : Rules) (held : List ℕ) (used new : List Use) : Type 0 where
-  placed : AllByRecursion (IsPlaced rules held) new
-  own : EachPair GoTogether new
-  others : Across GoTogether new used
+pub record Enters (rules : Rules) (held : List ℕ) (used new : List Use) : Type 0 where
+  pub placed : AllByRecursion (IsPlaced rules held) new
+  pub own : EachPair GoTogether new
+  pub others : Across GoTogether new used
 
 sound-between : (rules : Rules) (held : List ℕ) (new xs ys : List Use) → Enters rules held (xs ++ ys) new → AreSound rules held (xs ++ ys) → AreSound rules held ((xs ++ new) ++ ys)
 sound-between rules held new xs ys enters sound = record {
@@ -44,11 +46,16 @@ sound-between rules held new xs ys enters sound = record {
   together = pairs-between GoTogether new xs ys together-swap enters.own enters.others sound.together;
 }
 
-block-sound : (rules : Rules) (block : Block) (state : State) → FitsZone rules block → Enters rules state.held (uses rules state) (uses_of_block rules block) → IsSound rules state → IsSound rules (with_block block state)
+-- what is in use with one more block
+pub with_block-uses : (rules : Rules) (block : Block) (state : State) → uses rules (with_block block state) ≡ (flat_map (uses_of_block rules) state.live ++ uses_of_block rules block) ++ map use_of_place (delayed state.slots)
+with_block-uses rules block state =
+    let live = flat_map (uses_of_block rules) state.live in
+    ap (λ xs. xs ++ map use_of_place (delayed state.slots)) (flat_map-append (uses_of_block rules) state.live (block ∷ []) ∙ ap (λ more. live ++ more) (append-nil (uses_of_block rules block)))
+
+pub block-sound : (rules : Rules) (block : Block) (state : State) → FitsZone rules block → Enters rules state.held (uses rules state) (uses_of_block rules block) → IsSound rules state → IsSound rules (with_block block state)
 block-sound rules block state zone enters is =
     let live = flat_map (uses_of_block rules) state.live in
     let waiting = map use_of_place (delayed state.slots) in
-    let Sound : List Use → Type 0 = λ xs. AreSound rules state.held (xs ++ waiting) in
     record {
       slots = is.slots;
       zoned = all-append (FitsZone rules) state.live (block ∷ []) is.zoned (zone, tt);
@@ -56,8 +63,7 @@ block-sound rules block state zone enters is =
       arena = is.arena;
       pages = is.pages;
       bytes = is.bytes;
-      sound = subst Sound (sym (flat_map-append (uses_of_block rules) state.live (block ∷ []) ∙ ap (λ more. live ++ more) (append-nil (uses_of_block rules block))))
-          (sound-between rules state.held (uses_of_block rules block) live waiting enters is.sound);
+      sound = subst (AreSound rules state.held) (sym (with_block-uses rules block state)) (sound-between rules state.held (uses_of_block rules block) live waiting enters is.sound);
     }
 
 -- its bytes and its canaries are written
@@ -76,6 +82,11 @@ module _ (rules : Rules) (size class : ℕ) (class_is : size_class rules size �
 
   pub chunk-fits : is_too_large rules size ≡ false
   chunk-fits = ap (λ found. is_none found && nat_lt zone_pages (block_pages rules size)) class_is
+
+  pub chunk-zone : (address site : ℕ) → FitsZone rules (record { address = address; size = size; site = site })
+  chunk-zone address site =
+      let one : pages_for rules size ≡ 1 = ap (pages_by_class rules size) class_is in
+      record { fits = chunk-fits; within = omega (arith, bit_of-below (page_at address)) }
 
   pub chunk-page : (state : State) → page_for rules state size ≡ own_page (uses rules state) state.held class (word_at rules state.drawn)
   chunk-page state = ap (page_by_class rules state size) class_is
@@ -108,9 +119,7 @@ module _ (rules : Rules) (size class : ℕ) (class_is : size_class rules size �
       let block : Block = record { address = address; size = size; site = site } in
       let new = use_of_place (place_of page class index) in
       let use_is : uses_of_block rules block ≡ new ∷ [] = chunk-uses address site ∙ ap (λ a. use_of_place (record { address = a; class = class }) ∷ []) (chunk-address state page word) in
-      let one : pages_for rules size ≡ 1 = ap (pages_by_class rules size) class_is in
-      placed-keeps rules block (with_block block state) (block-sound rules block state
-      (record { fits = chunk-fits; within = omega (arith, bit_of-below (page_at address)) })
+      placed-keeps rules block (with_block block state) (block-sound rules block state (chunk-zone address site)
       (subst (Enters rules state.held used) (sym use_is) (record {
         placed = (picked-placed rules state.held used page class index is_one serves pick, tt);
         own = (tt, tt);
@@ -147,62 +156,58 @@ some-pages rules size none = ⊎_elim
     (λ ne. omega (arith, data_pages-hold size))
     (cases_eq size 0)
 
-module _ (rules : Rules) (size : ℕ) (none : size_class rules size ≡ None) where
-  pub pages-uses : (address site : ℕ) → uses_of_block rules (record { address = address; size = size; site = site }) ≡ uses_of_pages rules (record { address = address; size = size; site = site })
-  pages-uses address site = ap (uses_by_class rules (record { address = address; size = size; site = site })) none
+pub pages-uses : (rules : Rules) (size : ℕ) → size_class rules size ≡ None → (address site : ℕ)
+    → uses_of_block rules (record { address = address; size = size; site = site }) ≡ uses_of_pages rules (record { address = address; size = size; site = site })
+pages-uses rules size none address site = ap (uses_by_class rules (record { address = address; size = size; site = site })) none
 
-  module _ (held : List ℕ) (used : List Use) (first site : ℕ) (guards : Bool) (run : HasRun rules held used first (data_pages size + guard_count guards)) where
-    abbrev block : Block
-    block = record { address = address_of first; size = size; site = site }
+module _ (rules : Rules) (block : Block) (none : size_class rules block.size ≡ None) (first : ℕ) (at : block.address ≡ address_of first) where
+  abbrev pub data_use : Use
+  data_use = record { extent = data_of block; kind = Pages }
 
-    abbrev front : Use
-    front = record { extent = data_of block; kind = Pages }
+  abbrev pub guard_use : Use
+  guard_use = record { extent = guard_of block; kind = Guard }
 
-    abbrev guard : Use
-    guard = record { extent = guard_of block; kind = Guard }
+  abbrev pub whole_data : IsWhole data_use
+  whole_data = record { first = first; count = data_pages block.size; some = some-pages rules block.size none; first_is = at; len_is = refl; kind_is = tt }
 
-    abbrev whole-front : IsWhole front
-    whole-front = record { first = first; count = data_pages size; some = some-pages rules size none; first_is = refl; len_is = refl; kind_is = tt }
+  abbrev pub whole_guard : IsWhole guard_use
+  whole_guard = record { first = first + data_pages block.size; count = 1; some = omega arith; first_is = omega arith; len_is = refl; kind_is = tt }
 
-    abbrev whole-guard : IsWhole guard
-    whole-guard = record { first = first + data_pages size; count = 1; some = omega arith; first_is = omega arith; len_is = refl; kind_is = tt }
+  pages-enter : (held : List ℕ) (used : List Use) (guards : Bool) → HasRun rules held used first (data_pages block.size + guard_count guards) → Enters rules held used (data_use ∷ (if guards then guard_use ∷ [] else []))
+  pages-enter held used false run =
+      let high : first + data_pages block.size ≤ first + (data_pages block.size + 0) = omega arith in
+      record {
+        placed = (run-placed rules held used first _ run data_use whole_data (omega arith) high, tt);
+        own = (tt, tt);
+        others = (run-together rules held used first _ run data_use whole_data (omega arith) high, tt);
+      }
+  pages-enter held used true run =
+      let high : first + data_pages block.size ≤ first + (data_pages block.size + 1) = omega arith in
+      let last : first + data_pages block.size + 1 ≤ first + (data_pages block.size + 1) = omega arith in
+      let from : first ≤ first + data_pages block.size = omega arith in
+      record {
+        placed = (run-placed rules held used first _ run data_use whole_data (omega arith) high, (run-placed rules held used first _ run guard_use whole_guard from last, tt));
+        own = ((record { apart = apart-before (data_of block) (guard_of block) (omega arith); alike = λ page one two. tt }, tt), (tt, tt));
+        others = (run-together rules held used first _ run data_use whole_data (omega arith) high, (run-together rules held used first _ run guard_use whole_guard from last, tt));
+      }
 
-    pages-enter : Enters rules held used (front ∷ (if guards then guard ∷ [] else []))
-    pages-enter = by_guard guards refl
-      where
-        by_guard : (some : Bool) → guards ≡ some → Enters rules held used (front ∷ (if some then guard ∷ [] else []))
-        by_guard false is =
-            let high : first + data_pages size ≤ first + (data_pages size + guard_count guards) = omega arith in
-            record {
-              placed = (run-placed rules held used first _ run front whole-front (omega arith) high, tt);
-              own = (tt, tt);
-              others = (run-together rules held used first _ run front whole-front (omega arith) high, tt);
-            }
-        by_guard true is =
-            let count : guard_count guards ≡ 1 = ap guard_count is in
-            let high : first + data_pages size ≤ first + (data_pages size + guard_count guards) = omega arith in
-            let last : first + data_pages size + 1 ≤ first + (data_pages size + guard_count guards) = omega arith in
-            let from : first ≤ first + data_pages size = omega arith in
-            record {
-              placed = (run-placed rules held used first _ run front whole-front (omega arith) high, (run-placed rules held used first _ run guard whole-guard from last, tt));
-              own = ((record { apart = apart-before (data_of block) (guard_of block) (omega arith); alike = λ page one two. tt }, tt), (tt, tt));
-              others = (run-together rules held used first _ run front whole-front (omega arith) high, (run-together rules held used first _ run guard whole-guard from last, tt));
-            }
-
-  pages-sound : (state : State) (page word site : ℕ) → is_too_large rules size ≡ false → HasRun rules state.held (uses rules state) page (block_pages rules size) → IsSound rules state → IsSound rules ((placed_on rules state page word size site).next)
-  unfolding address_on
-  pages-sound state page word site fits run is =
-      let address = address_on rules state page word (size_class rules size) in
-      let at : address ≡ address_of page = ap (address_on rules state page word) none in
-      let block : Block = record { address = address; size = size; site = site } in
-      let Enter : List Use → Type 0 = λ new. Enters rules state.held (uses rules state) new in
-      let count : pages_for rules size ≡ block_pages rules size = ap (pages_by_class rules size) none in
+  -- it joins the live blocks on a run
+  pub page_block-sound : (state : State) → is_too_large rules block.size ≡ false → HasRun rules state.held (uses rules state) first (block_pages rules block.size) → IsSound rules state → IsSound rules (with_block block state)
+  page_block-sound state fits run is =
+      let count : pages_for rules block.size ≡ block_pages rules block.size = ap (pages_by_class rules block.size) none in
       let zone = run.zone in
-      let page_is : page_at address ≡ page = ap page_at at ∙ (let same : page_at (address_of page) ≡ page = omega arith in same) in
-      placed-keeps rules block (with_block block state) (block-sound rules block state
-      (record { fits = fits; within = let Z : ℕ → Type 0 = λ p. bit_of p + pages_for rules size ≤ zone_pages in subst Z (sym page_is) (omega arith) })
-      (subst Enter (sym (pages-uses address site ∙ ap (λ a. uses_of_pages rules (record { address = a; size = size; site = site })) at))
-      (pages-enter state.held (uses rules state) page site rules.options.guard run)) is)
+      let page_is : page_at block.address ≡ first = omega arith in
+      block-sound rules block state
+      (record { fits = fits; within = let Z : ℕ → Type 0 = λ p. bit_of p + pages_for rules block.size ≤ zone_pages in subst Z (sym page_is) (omega arith) })
+      (subst (Enters rules state.held (uses rules state)) (sym (pages-uses rules block.size none block.address block.site)) (pages-enter state.held (uses rules state) rules.options.guard run)) is
+
+pages-sound : (rules : Rules) (size : ℕ) → size_class rules size ≡ None → (state : State) (page word site : ℕ) → is_too_large rules size ≡ false → HasRun rules state.held (uses rules state) page (block_pages rules size) → IsSound rules state
+    → IsSound rules ((placed_on rules state page word size site).next)
+unfolding address_on
+pages-sound rules size none state page word site fits run is =
+    let address = address_on rules state page word (size_class rules size) in
+    let block : Block = record { address = address; size = size; site = site } in
+    placed-keeps rules block (with_block block state) (page_block-sound rules block none page (ap (address_on rules state page word) none) state fits run is)
 
 -- ---- a block of any size
 
@@ -233,7 +238,7 @@ with_pages-sound rules state run there is = record {
 }
 
 -- a page that isn't held is touched by nothing
-untouched-new : (rules : Rules) (held : List ℕ) (used : List Use) (page : ℕ) → is_held held page ≡ false → AllByRecursion (IsPlaced rules held) used → IsUntouched used page
+pub untouched-new : (rules : Rules) (held : List ℕ) (used : List Use) (page : ℕ) → is_held held page ≡ false → AllByRecursion (IsPlaced rules held) used → IsUntouched used page
 untouched-new rules held used page new placed =
     all-weaker (IsPlaced rules held) (λ one. touches page one ≡ false) used
     (λ one on. ⊎_elim (λ touched. absurd (true≢false (sym (on.held_is page touched) ∙ new))) (λ isnt. isnt) (cases_Bool (touches page one)))
@@ -301,12 +306,42 @@ module _ (rules : Rules) (size : ℕ) where
           placed-sound (with_pages run drawn) run.first second site (size_class rules size) refl fits
           (room-run (with_run run state.held) (uses rules state) run.first (size_class rules size) refl sound.placed (found-run rules state (pages_for rules size) first passed move ends is)) wide
 
-  pub malloc-sound : (state : State) (site : ℕ) (answers : Answers) → MayAnswer rules state (malloc_wish rules state size) answers → IsSound rules state → IsSound rules ((malloc rules state size site answers.claim).next)
-  malloc-sound state site answers may is = large (is_too_large rules size) refl may
+  -- it is placed where its search was answered
+  pub placing-sound : (state : State) (site : ℕ) (answers : Answers) → is_too_large rules size ≡ false → MayAnswer rules state (placing_wish rules state size) answers → IsSound rules state
+      → IsSound rules ((placing rules state size site answers.claim).next)
+  placing-sound state site answers fits may is =
+      where-sound state (words_for rules size) (page_for rules state size) (word_at rules state.drawn) (word_at rules (state.drawn + 1)) site answers fits
+      (λ page found. room-own state page (size_class rules size) refl found is) may is
+
+  -- ---- a size that is too large
+
+  -- what is asked then is asked for a size that isn't
+  pub may-fit : (state : State) (wish : Wish) (answers : Answers) → is_too_large rules size ≡ false → MayAnswer rules state (if is_too_large rules size then Nothing else wish) answers → MayAnswer rules state wish answers
+  may-fit state wish answers fits = subst (λ large. MayAnswer rules state (if large then Nothing else wish) answers) fits
+
+  pub unless-sound : (state : State) (step : Step) → IsSound rules state → (is_too_large rules size ≡ false → IsSound rules step.next) → IsSound rules ((unless_too_large rules state size step).next)
+  unless-sound state step is next = by (is_too_large rules size) refl
     where
-      large : (test : Bool) → is_too_large rules size ≡ test → MayAnswer rules state (if test then Nothing else placing_wish rules state size) answers
-          → IsSound rules ((if test then unchanged state (null_or_fault rules TooLarge) else block_placed rules (words_for rules size) (placing rules state size site answers.claim)).next)
-      large true test may = is
-      large false test may =
-          where-sound state (words_for rules size) (page_for rules state size) (word_at rules state.drawn) (word_at rules (state.drawn + 1)) site answers test
-          (λ page found. room-own state page (size_class rules size) refl found is) may is
+      by : (large : Bool) → is_too_large rules size ≡ large → IsSound rules ((if large then unchanged state (null_or_fault rules TooLarge) else step).next)
+      by true large = is
+      by false fits = next fits
+
+  -- ---- malloc and calloc
+
+  pub malloc-sound : (state : State) (site : ℕ) (answers : Answers) → MayAnswer rules state (malloc_wish rules state size) answers → IsSound rules state → IsSound rules ((malloc rules state size site answers.claim).next)
+  malloc-sound state site answers may is =
+      unless-sound state (block_placed rules (words_for rules size) (placing rules state size site answers.claim)) is
+      (λ fits. placing-sound state site answers fits (may-fit state (placing_wish rules state size) answers fits may) is)
+
+  zeroed_block-sound : (state : State) (site : ℕ) (answers : Answers) → MayAnswer rules state (malloc_wish rules state size) answers → IsSound rules state → IsSound rules ((zeroed_block rules state size site answers.claim).next)
+  zeroed_block-sound state site answers may is =
+      let placed = placing rules state size site answers.claim in
+      unless-sound state (block_placed rules (words_for rules size) (zeroed size placed)) is
+      (λ fits. zeroed-sound rules placed.next (placing-sound state site answers fits (may-fit state (placing_wish rules state size) answers fits may) is) placed.address size)
+
+pub calloc-sound : (rules : Rules) (state : State) (count size site : ℕ) (answers : Answers) → MayAnswer rules state (calloc_wish rules state count size) answers → IsSound rules state → IsSound rules ((calloc rules state count size site answers.claim).next)
+calloc-sound rules state count size site answers = by (product count size)
+  where
+    by : (asked : Option ℕ) → MayAnswer rules state (calloc_wish_of rules state asked) answers → IsSound rules state → IsSound rules ((calloc_of rules state asked site answers.claim).next)
+    by None may is = is
+    by (Some bytes) may is = zeroed_block-sound rules bytes state site answers may is

@@ -1,11 +1,10 @@
 -- What a page is, before a step and after it. All that touches a page has the page's kind. So after a step by which
 -- blocks leave or move, a page has its kind still, unless nothing touches it any more; and a new block gives its pages
 -- their kind and leaves the others theirs. At the first byte of a page block, and there alone, the block stands.
-use Rattle.std.proofs.Common.{◌≡◌, ℕ, ◌<◌, ◌⊎◌, inl, inr, Bool, true, false, not, ◌==◌, if◌then◌else◌, List, [], ◌∷◌, ◌++◌, append-nil, map, Option, Some, None, slice_set, refl, sym, ap, ◌∙◌, subst, arith}
+use Rattle.std.proofs.Common.{◌≡◌, ℕ, ◌<◌, ◌⊎◌, inl, inr, Bool, true, false, not, ◌==◌, if◌then◌else◌, List, [], ◌∷◌, ◌++◌, map, Option, Some, None, slice_set, refl, sym, ap, ◌∙◌, subst, arith}
 use Rattle.std.specs.List.{filter, find, flat_map, AllByRecursion}
 use Rattle.std.specs.Option.{option_map, option_or}
 use Rattle.std.proofs.lemmas.Bool.{true≢false, cases_Bool, eqb-true}
-use Rattle.std.proofs.lemmas.List.Concat.{flat_map-append}
 use Rattle.std.proofs.lemmas.List.Folds.{find-append}
 use mathlib.Core.Logic.{⊎_elim}
 use Rattle.om_geom.specs.Addresses.{Covers, address_of, page_at}
@@ -23,10 +22,10 @@ use Rattle.om_model.specs.declared.block.Block.{Block}
 use Rattle.om_model.specs.declared.block.Place.{Place}
 use Rattle.om_model.proofs.Each.{Across, all-weaker, all-both, all-each, all-append, all-first, all-second, all-find, across-swap, pairs-all, pairs-first, pairs-second, pairs-across, find-nothing, none-found}
 use Rattle.om_model.proofs.Flat.{all-flat}
-use Rattle.om_model.proofs.Sound.{HasShape, IsPlaced, GoTogether, AreSound, IsSound, place-kind, whole-touched, alike-chunk, alike-swap, shape-low, together-swap, touched-at, well-formed}
+use Rattle.om_model.proofs.Sound.{HasShape, IsPlaced, GoTogether, AreSound, IsSound, place-kind, whole-touched, alike-chunk, alike-swap, shape-low, together-swap, touched-at, touches-first, well-formed}
 use Rattle.om_model.proofs.Places.{untouched-free}
-use Rattle.om_model.proofs.Malloc.{pages-uses, some-pages}
-use Rattle.om_model.proofs.Free.{all-slot, of-block, of-left, pages-by}
+use Rattle.om_model.proofs.Malloc.{pages-uses, some-pages, with_block-uses}
+use Rattle.om_model.proofs.Free.{all-slot, block-placed, class-of_pages, kind_by_class, of-block, of-left, own_run, run-free}
 
 -- ---- all that touches a page has its kind
 
@@ -95,17 +94,13 @@ module _ (rules : Rules) (state : State) (block : Block) (page : ℕ) where
   abbrev delayed_uses : List Use
   delayed_uses = map use_of_place (delayed state.slots)
 
-  with-uses : uses rules (with_block block state) ≡ (live_uses ++ uses_of_block rules block) ++ delayed_uses
-  with-uses =
-      ap (λ xs. xs ++ delayed_uses) (flat_map-append (uses_of_block rules) state.live (block ∷ []) ∙ ap (λ more. live_uses ++ more) (append-nil (uses_of_block rules block)))
-
   -- its pages get the kinds of what it has there
   pub with_block-kinds : IsSound rules (with_block block state) → AllHave (uses_of_block rules block) page (page_kind (uses rules (with_block block state)) page)
   with_block-kinds is =
       let P : Use → Type 0 = λ one. touches page one ≡ true → Some one.kind ≡ page_kind (uses rules (with_block block state)) page in
       all-second P live_uses (uses_of_block rules block)
       (all-first P (live_uses ++ uses_of_block rules block) delayed_uses
-      (subst (AllByRecursion P) with-uses (all-have rules state.held (uses rules (with_block block state)) is.sound page)))
+      (subst (AllByRecursion P) (with_block-uses rules block state) (all-have rules state.held (uses rules (with_block block state)) is.sound page)))
 
   -- each other page is what it was
   pub with_block-others : AllByRecursion (λ one. touches page one ≡ false) (uses_of_block rules block) → page_kind (uses rules (with_block block state)) page ≡ page_kind (uses rules state) page
@@ -113,7 +108,7 @@ module _ (rules : Rules) (state : State) (block : Block) (page : ℕ) where
       let test = touches page in
       let own = uses_of_block rules block in
       ap (option_map (λ (u : Use). u.kind))
-      (ap (find test) with-uses
+      (ap (find test) (with_block-uses rules block state)
       ∙ find-append test (live_uses ++ own) delayed_uses
       ∙ ap (λ o. option_or o (find test delayed_uses)) (find-append test live_uses own ∙ ap (option_or (find test live_uses)) (find-nothing test own untouched))
       ∙ option_or-nothing (find test live_uses) (find test delayed_uses)
@@ -178,18 +173,19 @@ module _ (rules : Rules) (state : State) (is : IsSound rules state) where
       (all-both Has (IsPlaced rules state.held) (λ one. Has one × IsPlaced rules state.held one) used (λ one first second. (first, second)) have sound.placed) formed.on_held
 
 -- a block begins with something in use
-record Head (used : List Use) (address : ℕ) : Type 0 where
+record Head (used : List Use) (address : ℕ) (kind_is : Kind) : Type 0 where
   one : Use
   rest : List Use
   is : used ≡ one ∷ rest
   first : (one.extent).first ≡ address
   some : 0 < (one.extent).len
+  kind : one.kind ≡ kind_is
 
-block-head : (rules : Rules) (block : Block) (class : Option ℕ) → size_class rules block.size ≡ class → Head (uses_by_class rules block class) block.address
+block-head : (rules : Rules) (block : Block) (class : Option ℕ) → size_class rules block.size ≡ class → Head (uses_by_class rules block class) block.address (kind_by_class class)
 block-head rules block (Some class) is =
-    record { one = use_of_place (record { address = block.address; class = class }); rest = []; is = refl; first = refl; some = omega (arith, stride-at_least_16 class (class_of-is_class block.size rules.options.canary class is)) }
+    record { one = use_of_place (record { address = block.address; class = class }); rest = []; is = refl; first = refl; some = omega (arith, stride-at_least_16 class (class_of-is_class block.size rules.options.canary class is)); kind = refl }
 block-head rules block None none =
-    record { one = record { extent = data_of block; kind = Pages }; rest = _; is = refl; first = refl; some = omega (arith, some-pages rules block.size none) }
+    record { one = record { extent = data_of block; kind = Pages }; rest = _; is = refl; first = refl; some = omega (arith, some-pages rules block.size none); kind = refl }
 
 -- each two blocks
 pairs-blocks : (R : Use → Use → Type 0) → ((a b : Use) → R a b → R b a) → (f : Block → List Use) (live : List Block) → EachPair R (flat_map f live) → EachPair (λ a b. Across R (f a) (f b)) live
@@ -304,6 +300,14 @@ all-split f P test (x ∷ xs) left each = ⊎_elim
     all-append P (f x) (flat_map f xs) (all-first P (f x) rest both) (all-split f P test xs (all-second P (f x) rest both) each.1))
     (cases_Bool (test x))
 
+-- the pages of a page block, where it is gone
+pub page_block-gone : (rules : Rules) (state : State) (is : IsSound rules state) (block : Block) → block_at state block.address ≡ Some block → size_class rules block.size ≡ None → (page : ℕ)
+    → is_page_of (record { first = page_at block.address; count = block_pages rules block.size }) page ≡ true → page_kind (uses rules (without_block state block.address)) page ≡ None
+page_block-gone rules state is block live none page inside =
+    let after = uses rules (without_block state block.address) in
+    let clear = run-free rules state.held after (page_at block.address) (block_pages rules block.size) (own_run rules state is block live none) in
+    ap (option_map (λ (u : Use). u.kind)) (find-nothing (touches page) after (clear page inside))
+
 module _ (rules : Rules) (state : State) (is : IsSound rules state) (address : ℕ) (block : Block) (live : block_at state address ≡ Some block) (page : ℕ) where
   abbrev Clear : Use → Type 0
   Clear one = touches page one ≡ false
@@ -334,5 +338,24 @@ module _ (rules : Rules) (state : State) (is : IsSound rules state) (address : �
   -- the pages of a page block are free
   pub without_block-free : page_kind (uses rules state) (page_at address) ≡ Some Pages → is_page_of (record { first = page_at address; count = block_pages rules block.size }) page ≡ true → page_kind (uses rules (without_block state address)) page ≡ None
   without_block-free found within =
-      let after = uses rules (without_block state address) in
-      ap (option_map (λ (u : Use). u.kind)) (find-nothing (touches page) after (pages-by rules state is address block live (size_class rules block.size) refl found page within))
+      let here = eqb-true block.address address (find-passes (λ (b : Block). b.address == address) state.live block live) in
+      let none = class-of_pages rules state is address block live found in
+      let Free : ℕ → Type 0 = λ a. block_at state a ≡ Some block → is_page_of (record { first = page_at a; count = block_pages rules block.size }) page ≡ true → page_kind (uses rules (without_block state a)) page ≡ None in
+      subst Free here (λ own inside. page_block-gone rules state is block own none page inside) live within
+
+-- ---- the page on which a block begins
+
+-- it has the kind of the block
+pub kind-of_block : (rules : Rules) (state : State) → IsSound rules state → (block : Block) → block_at state block.address ≡ Some block → (class : Option ℕ) → size_class rules block.size ≡ class
+    → page_kind (uses rules state) (page_at block.address) ≡ Some (kind_by_class class)
+kind-of_block rules state is block live class class_is =
+    let head = block-head rules block class class_is in
+    let page = page_at block.address in
+    let Of : Use → Type 0 = λ one. touches page one ≡ true → Some one.kind ≡ page_kind (uses rules state) page in
+    let In : List Use → Type 0 = AllByRecursion Of in
+    let own : In (uses_of_block rules block) =
+    of-block rules state is block.address block live Of (all-first Of (flat_map (uses_of_block rules) state.live) (map use_of_place (delayed state.slots)) (all-have rules state.held (uses rules state) is.sound page)) in
+    let placed = subst (AllByRecursion (IsPlaced rules state.held)) head.is (subst (λ c. AllByRecursion (IsPlaced rules state.held) (uses_by_class rules block c)) class_is (block-placed rules state is block.address block live)) in
+    let all = subst In head.is (subst (λ c. In (uses_by_class rules block c)) class_is own) in
+    let touched : touches page head.one ≡ true = subst (λ a. touches (page_at a) head.one ≡ true) head.first (touches-first head.one (placed.0).shape) in
+    sym (all.0 touched) ∙ ap Some head.kind

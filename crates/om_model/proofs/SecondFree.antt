@@ -1,32 +1,35 @@
 -- Under freecheck a free is done only where a live block begins at the address, and none does then. A block begins
 -- there again only where one is given. So between two frees that were done one was given.
-use Rattle.std.proofs.Common.{◌≡◌, ℕ, ◌+◌, ◌++◌, Bool, true, false, not, ◌==◌, if◌then◌else◌, List, [], ◌∷◌, Option, Some, None, IsSomeAnd, is_some, refl, sym, ap, ◌∙◌, subst}
+use Rattle.std.proofs.Common.{◌≡◌, ℕ, ◌+◌, ◌++◌, Bool, true, false, not, ◌&&◌, ◌==◌, if◌then◌else◌, List, [], ◌∷◌, Option, Some, None, IsSomeAnd, is_some, refl, sym, ap, ◌∙◌, subst}
 use Rattle.std.specs.List.{AllByRecursion, list_any}
 use Rattle.std.proofs.lemmas.Bool.{cases_Bool, eqb-true}
 use mathlib.Core.Logic.{⊎_elim}
-use Rattle.om_delay.specs.Changes.{freed_byte}
 use Rattle.om_geom.specs.Addresses.{page_at}
 use Rattle.om_geom.specs.FitLaws.{find-passes}
 use Rattle.om_model.specs.Data.CallEntry.{CallEntry}
-use Rattle.om_model.specs.Pool.Access.{barred, load_unless, store_unless}
-use Rattle.om_model.specs.Pool.Canaries.{with_canaries}
-use Rattle.om_model.specs.Pool.Free.{Freed, is_surplus, kept_or_let_go, evicted, without_block, drawn_slot, slot_of, into_slot, put_off, delay, delay_unless, misuse, freed_again, without_page_block, free_at, free}
-use Rattle.om_model.specs.Pool.InUse.{Kind, Chunk, Pages, Guard, uses, page_kind, is_free_page}
-use Rattle.om_model.specs.Pool.Journal.{Agrees, step_of, answers_of, next_of, after, state_from, IsLawfulEntry, IsLawfulFrom, IsLawful}
-use Rattle.om_model.specs.Pool.Junk.{fills_freed, fresh_byte, data_extent, extent_of_place, with_fresh_junk, with_freed_place, with_freed_pages}
-use Rattle.om_model.specs.Pool.Malloc.{words_for, is_too_large, page_for, entered, address_on, placed_where, placing, block_placed, malloc}
+use Rattle.om_model.specs.Pool.Access.{barred, load_unless, load, store_unless, store}
+use Rattle.om_model.specs.Pool.Product.{product}
+use Rattle.om_model.specs.Pool.Calloc.{zeroed, calloc_of, calloc}
+use Rattle.om_model.specs.Pool.Canaries.{broken_canary}
+use Rattle.om_model.specs.Pool.Free.{without_block, drawn_slot, delay_unless, misuse, freed_again, free_at, free}
+use Rattle.om_model.specs.Pool.InUse.{Kind, Chunk, Pages, Guard, uses, page_kind}
+use Rattle.om_model.specs.Pool.Journal.{Agrees, step_unless, step_of, answers_of, next_of, after, state_from, IsLawfulEntry, IsLawfulFrom, IsLawful}
+use Rattle.om_model.specs.Pool.Malloc.{Placed, block_or_null, words_for, is_too_large, page_for, address_on, placed_where, placing, block_placed, unless_too_large, malloc}
 use Rattle.om_model.specs.Pool.Picks.{starts_place}
+use Rattle.om_model.specs.Pool.Realloc.{Resize, with_size, resized, stayed, shrunk, grown, slot_words, late_misuse, slot_drawn, with_copy, left_for, moved_where, moved, moved_unless, moves_checked, claimed_unless, realloc_by, realloc_block, unless_broken, realloc_at, realloc, reallocarray_of, reallocarray}
+use Rattle.om_model.specs.Pool.Resizing.{Way, Stays, Shrinks, Grows, Claims, Moves, last_pages, pages_after, way}
 use Rattle.om_model.specs.Pool.Rules.{Rules, word_at, size_class}
-use Rattle.om_model.specs.Pool.Runs.{Run, run_of}
+use Rattle.om_model.specs.Pool.Runs.{run_of}
 use Rattle.om_model.specs.Pool.SecondFree.{AreFreedOnce, IsFreeDone, is_block_at, gives_at}
 use Rattle.om_model.specs.Pool.Standing.{Standing, NotHeld, FreePage, PageBlock, InPageBlock, OnGuard, LivePlace, DelayedPlace, FreePlace, Unaligned, block_at, delayed_at, in_pages, at_place, on_page, standing}
-use Rattle.om_model.specs.Pool.State.{State, opening, drawn_more, filled_with, holds, with_pages, without_pages}
+use Rattle.om_model.specs.Pool.State.{State, opening, drawn_more, holds, with_pages}
 use Rattle.om_model.specs.Pool.Steps.{Answers, Step, unchanged, null_or_fault}
 use Rattle.om_model.specs.declared.block.Block.{Block}
 use Rattle.om_model.specs.declared.block.Place.{Place}
 use Rattle.om_model.specs.declared.entry.Entry.{Entry}
 use Rattle.om_model.specs.declared.entry.Entry.TheVariants.{Call, Phase}
 use Rattle.om_model.specs.declared.entry.Move.{Move}
+use Rattle.om_model.specs.declared.looks.Look.{Look}
 use Rattle.om_model.specs.declared.operation.Op.{Op}
 use Rattle.om_model.specs.declared.operation.Op.TheVariants.{Malloc, Calloc, Realloc, Reallocarray, Free, Load, Store}
 use Rattle.om_model.specs.declared.reply.Fault.{Fault}
@@ -34,62 +37,8 @@ use Rattle.om_model.specs.declared.reply.Fault.TheVariants as fault
 use Rattle.om_model.specs.declared.reply.Reply.{Reply}
 use Rattle.om_model.specs.declared.reply.Reply.TheVariants as reply
 use Rattle.om_model.specs.declared.reply.Why.TheVariants.{TooLarge}
+use Rattle.om_model.proofs.LiveBlocks.{canary-live, delay-live, entered-live, let_go-live, moved_to_slot-live, new_data-live, page_block-live, zeroed-live}
 use Rattle.om_model.proofs.Each.{all-append, all-filter, all-weaker, find-nothing, or_none, passes-filter}
-
--- ---- the live blocks after a step
-
-freed-live : (rules : Rules) (place : Place) (state : State) → (with_freed_place rules place state).live ≡ state.live
-unfolding with_freed_place
-freed-live rules place state = by (fills_freed rules)
-  where
-    by : (b : Bool) → (if b then filled_with freed_byte (extent_of_place place) state else state).live ≡ state.live
-    by true = refl
-    by false = refl
-
-freed_pages-live : (rules : Rules) (block : Block) (state : State) → (with_freed_pages rules block state).live ≡ state.live
-unfolding with_freed_pages
-freed_pages-live rules block state = refl
-
-let_go-live : (rules : Rules) (state : State) (run : Run) → ((kept_or_let_go rules state run).next).live ≡ state.live
-unfolding kept_or_let_go
-let_go-live rules state run = by (is_surplus rules state)
-  where
-    by : (b : Bool) → let left : Freed = if b then record { release = Some run; next = without_pages run state } else record { release = None; next = state } in (left.next).live ≡ state.live
-    by true = refl
-    by false = refl
-
-evicted-live : (rules : Rules) (state : State) (slot : Option Place) → ((evicted rules state slot).next).live ≡ state.live
-evicted-live rules state None = refl
-evicted-live rules state (Some place) = by (is_free_page (uses rules state) (page_at place.address))
-  where
-    run : Run
-    run = record { first = page_at place.address; count = 1 }
-
-    by : (b : Bool) → let left : Freed = if b then kept_or_let_go rules state run else record { release = None; next = state } in (left.next).live ≡ state.live
-    by true = let_go-live rules state run
-    by false = refl
-
-delay-live : (rules : Rules) (state : State) (place : Place) → ((delay rules state place).next).live ≡ (without_block state place.address).live
-unfolding delay
-delay-live rules state place =
-    let slot = drawn_slot rules state in
-    evicted-live rules (put_off rules (drawn_more 1 state) slot place) (slot_of state slot) ∙ freed-live rules place (into_slot (drawn_more 1 state) slot place)
-
-page_block-live : (rules : Rules) (state : State) (block : Block) → ((without_page_block rules state block).next).live ≡ (without_block state block.address).live
-page_block-live rules state block =
-    let left = without_block state block.address in
-    let_go-live rules (with_freed_pages rules block left) _ ∙ freed_pages-live rules block left
-
-entered-live : (rules : Rules) (block : Block) (state : State) → (entered rules block state).live ≡ state.live ++ block ∷ []
-unfolding with_canaries with_fresh_junk
-entered-live rules block state = by (rules.options.junk == 2)
-  where
-    joined : State
-    joined = record state { live = state.live ++ block ∷ [] }
-
-    by : (b : Bool) → (if b then filled_with fresh_byte (data_extent rules block) joined else joined).live ≡ state.live ++ block ∷ []
-    by true = refl
-    by false = refl
 
 -- ---- no live block begins at the address
 
@@ -127,40 +76,161 @@ module _ (rules : Rules) (address : ℕ) where
       by (Some fault) = is
       by None = subst IsVacant (sym (delay-live rules state place)) (keeps-left state place.address is)
 
-  -- a malloc gives the block that it answers
-  where-keeps : (state : State) (words : ℕ) (own : Option ℕ) (claim : Option Move) (word size site : ℕ) → is_block_at address (block_placed rules words (placed_where rules state own claim word size site)).reply ≡ false → IsVacant state.live
-      → IsVacant ((placed_where rules state own claim word size site).next).live
+  -- after a step that gives no block there, there is none where there was none before
+  abbrev Keeps : State → Step → Type 0
+  Keeps state step = is_block_at address step.reply ≡ false → IsVacant state.live → IsVacant (step.next).live
+
+  -- a block that is placed is given
+  where-keeps : (state : State) (words : ℕ) (own : Option ℕ) (claim : Option Move) (word size site : ℕ) → Keeps state (block_placed rules words (placed_where rules state own claim word size site))
   where-keeps state words (Some page) claim word size site others is = subst IsVacant (sym (entered-live rules (record { address = address_on rules state page word (size_class rules size); size = size; site = site }) state)) (all-append Elsewhere state.live _ is (others, tt))
   where-keeps state words None (Some move) word size site others is =
       let pages = with_pages (run_of move) state in
       subst IsVacant (sym (entered-live rules (record { address = address_on rules pages (run_of move).first word (size_class rules size); size = size; site = site }) pages)) (all-append Elsewhere state.live _ is (others, tt))
   where-keeps state words None None word size site others is = is
 
-  malloc-keeps : (state : State) (size site : ℕ) (claim : Option Move) → is_block_at address (malloc rules state size site claim).reply ≡ false → IsVacant state.live → IsVacant ((malloc rules state size site claim).next).live
-  malloc-keeps state size site claim = large (is_too_large rules size)
-    where
-      large : (b : Bool) → let step : Step = if b then unchanged state (null_or_fault rules TooLarge) else block_placed rules (words_for rules size) (placing rules state size site claim) in
-          is_block_at address step.reply ≡ false → IsVacant state.live → IsVacant (step.next).live
-      large true = λ others is. is
-      large false = where-keeps (drawn_more (words_for rules size) state) (words_for rules size) (page_for rules state size) claim (word_at rules (state.drawn + 1)) size site
+  placing-keeps : (state : State) (words size site : ℕ) (claim : Option Move) → Keeps state (block_placed rules words (placing rules state size site claim))
+  placing-keeps state words size site claim = where-keeps (drawn_more (words_for rules size) state) words (page_for rules state size) claim (word_at rules (state.drawn + 1)) size site
 
-  op-keeps : (state : State) (op : Op) (answers : Answers) (answer : Reply) → IsSomeAnd (step_of rules state op answers) (λ step. answer ≡ step.reply) → is_block_at address answer ≡ false → IsVacant state.live
-      → IsVacant (next_of state (step_of rules state op answers)).live
-  op-keeps state (Malloc size site) answers answer same others is = malloc-keeps state size site answers.claim (ap (is_block_at address) (sym same) ∙ others) is
-  op-keeps state (Free other) answers answer same others is = at-keeps state other (standing rules state other) is
-  op-keeps state (Load other) answers answer same others is = by (barred rules state other)
+  large-keeps : (state : State) (size : ℕ) (step : Step) → Keeps state step → Keeps state (unless_too_large rules state size step)
+  large-keeps state size step keeps = by (is_too_large rules size)
     where
-      by : (bar : Option Reply) → IsVacant ((load_unless state other bar).next).live
-      by (Some bar) = is
-      by None = is
-  op-keeps state (Store other byte) answers answer same others is = by (barred rules state other)
+      by : (b : Bool) → Keeps state (if b then unchanged state (null_or_fault rules TooLarge) else step)
+      by true = λ others is. is
+      by false = keeps
+
+  malloc-keeps : (state : State) (size site : ℕ) (claim : Option Move) → Keeps state (malloc rules state size site claim)
+  malloc-keeps state size site claim =
+      large-keeps state size (block_placed rules (words_for rules size) (placing rules state size site claim)) (placing-keeps state (words_for rules size) size site claim)
+
+  calloc-keeps : (state : State) (count size site : ℕ) (claim : Option Move) → Keeps state (calloc rules state count size site claim)
+  calloc-keeps state count size site claim = by (product count size)
     where
-      by : (bar : Option Reply) → IsVacant ((store_unless state other byte bar).next).live
-      by (Some bar) = is
-      by None = is
-  op-keeps state (Calloc count size site) answers answer same others is = is
-  op-keeps state (Realloc other size site) answers answer same others is = is
-  op-keeps state (Reallocarray other count size site) answers answer same others is = is
+      by : (asked : Option ℕ) → Keeps state (calloc_of rules state asked site claim)
+      by None = λ others is. is
+      by (Some bytes) =
+          let placed = placing rules state bytes site claim in
+          large-keeps state bytes (block_placed rules (words_for rules bytes) (zeroed bytes placed))
+          (λ others is. subst IsVacant (sym (zeroed-live placed.address bytes placed.next)) (placing-keeps state (words_for rules bytes) bytes site claim others is))
+
+  -- ---- realloc
+
+  -- a block that keeps its address is given there
+  resized-keeps : (state : State) (asked : Resize) → is_block_at address (reply.Block (asked.block).address) ≡ false → IsVacant state.live → IsVacant (resized asked state).live
+  resized-keeps state asked others is =
+      let old = (asked.block).address in
+      all-append Elsewhere (without_block state old).live _ (keeps-left state old is) (others, tt)
+
+  stayed-keeps : (state : State) (asked : Resize) → Keeps state (stayed rules state asked)
+  stayed-keeps state asked others is = subst IsVacant (sym (canary-live rules (with_size asked) (resized asked state))) (resized-keeps state asked others is)
+
+  shrunk-keeps : (state : State) (asked : Resize) → Keeps state (shrunk rules state asked)
+  shrunk-keeps state asked others is =
+      subst IsVacant (sym (let_go-live rules (resized asked state) (last_pages rules asked.block asked.size))) (resized-keeps state asked others is)
+
+  grown-keeps : (state : State) (asked : Resize) → Keeps state (grown rules state asked)
+  grown-keeps state asked others is = subst IsVacant (sym (new_data-live rules asked.block asked.size (resized asked state))) (resized-keeps state asked others is)
+
+  left_for-keeps : (state : State) (block : Block) (place : Option Place) (next : State) → IsVacant next.live → IsVacant ((left_for rules state block place next).next).live
+  left_for-keeps state block (Some place) next is = subst IsVacant (sym (moved_to_slot-live rules next (drawn_slot rules state) place)) (keeps-left next place.address is)
+  left_for-keeps state block None next is = subst IsVacant (sym (page_block-live rules next block)) (keeps-left next block.address is)
+
+  moved-keeps : (state : State) (asked : Resize) (claim : Option Move) → Keeps state (moved rules state asked claim)
+  moved-keeps state asked claim =
+      let from = slot_drawn state asked.place in
+      let words = slot_words asked.place + words_for rules asked.size in
+      let placed = placing rules from asked.size asked.site claim in
+      by words placed placed.address refl (placing-keeps from words asked.size asked.site claim)
+    where
+      by : (words : ℕ) (placed : Placed) (to : Option ℕ) → placed.address ≡ to → Keeps state (block_placed rules words placed) → Keeps state (moved_where rules state asked words placed to)
+      by words placed None at keeps others is = keeps others is
+      by words placed (Some to) at keeps others is =
+          let elsewhere = subst (λ a. is_block_at address (block_or_null rules a) ≡ false) (sym at) others in
+          left_for-keeps state asked.block asked.place (with_copy asked.block asked.size to placed.next) (keeps elsewhere is)
+
+  moves-keeps : (state : State) (asked : Resize) (claim : Option Move) → Keeps state (moves_checked rules state asked claim)
+  moves-keeps state asked claim = by (late_misuse rules state asked.place)
+    where
+      by : (found : Option Fault) → Keeps state (moved_unless found rules state asked claim)
+      by (Some fault) = λ others is. is
+      by None = moved-keeps state asked claim
+
+  way-keeps : (way : Way) (state : State) (asked : Resize) (answers : Answers) → Keeps state (realloc_by way rules state asked answers)
+  way-keeps Stays state asked answers = stayed-keeps state asked
+  way-keeps Shrinks state asked answers = shrunk-keeps state asked
+  way-keeps Grows state asked answers = grown-keeps state asked
+  way-keeps Moves state asked answers = moves-keeps state asked answers.claim
+  way-keeps Claims state asked answers = by answers.taken
+    where
+      by : (taken : Option Look) → Keeps state (claimed_unless taken rules state asked answers.claim)
+      by (Some look) = moves-keeps state asked answers.claim
+      by None = grown-keeps (with_pages (pages_after rules asked.block asked.size) state) asked
+
+  block-keeps : (state : State) (asked : Resize) (answers : Answers) → Keeps state (realloc_block rules state asked answers)
+  block-keeps state asked answers =
+      let by = way rules state asked.block asked.size in
+      large-keeps state asked.size (realloc_by by rules state asked answers) (way-keeps by state asked answers)
+
+  realloc-at : (state : State) (other size site : ℕ) (answers : Answers) (stands : Standing) → Keeps state (realloc_at rules state other size site answers stands)
+  realloc-at state other size site answers (PageBlock block) = block-keeps state (record { block = block; place = None; size = size; site = site }) answers
+  realloc-at state other size site answers (LivePlace place block) = by (broken_canary rules state block)
+    where
+      by : (broken : Option ℕ) → Keeps state (unless_broken broken state (realloc_block rules state (record { block = block; place = Some place; size = size; site = site }) answers))
+      by (Some offset) = λ others is. is
+      by None = block-keeps state (record { block = block; place = Some place; size = size; site = site }) answers
+  realloc-at state other size site answers (DelayedPlace place) = λ others is. is
+  realloc-at state other size site answers NotHeld = λ others is. is
+  realloc-at state other size site answers FreePage = λ others is. is
+  realloc-at state other size site answers InPageBlock = λ others is. is
+  realloc-at state other size site answers OnGuard = λ others is. is
+  realloc-at state other size site answers FreePlace = λ others is. is
+  realloc-at state other size site answers Unaligned = λ others is. is
+
+  realloc-keeps : (state : State) (other size site : ℕ) (answers : Answers) → Keeps state (realloc rules state other size site answers)
+  realloc-keeps state other size site answers = realloc-at state other size site answers (standing rules state other)
+
+  reallocarray-keeps : (state : State) (other count size site : ℕ) (answers : Answers) → Keeps state (reallocarray rules state other count size site answers)
+  reallocarray-keeps state other count size site answers = by (product count size)
+    where
+      by : (asked : Option ℕ) → Keeps state (reallocarray_of rules state other asked site answers)
+      by None = λ others is. is
+      by (Some bytes) = realloc-keeps state other bytes site answers
+
+  -- ---- any step
+
+  store-keeps : (state : State) (other byte : ℕ) → Keeps state (store rules state other byte)
+  store-keeps state other byte = by (barred rules state other)
+    where
+      by : (bar : Option Reply) → Keeps state (store_unless state other byte bar)
+      by (Some bar) = λ others is. is
+      by None = λ others is. is
+
+  load-keeps : (state : State) (other : ℕ) → Keeps state (load rules state other)
+  load-keeps state other = by (barred rules state other)
+    where
+      by : (bar : Option Reply) → Keeps state (load_unless state other bar)
+      by (Some bar) = λ others is. is
+      by None = λ others is. is
+
+  -- what its step answers is the entry's answer
+  abbrev AllKeep : State → Option Step → Type 0
+  AllKeep state step = (answer : Reply) → IsSomeAnd step (λ s. answer ≡ s.reply) → is_block_at address answer ≡ false → IsVacant state.live → IsVacant (next_of state step).live
+
+  some-keep : (state : State) (step : Step) → Keeps state step → AllKeep state (Some step)
+  some-keep state step keeps answer same others is = keeps (ap (is_block_at address) (sym same) ∙ others) is
+
+  unless-keep : (state : State) (as_malloc : Bool) (step : Step) → Keeps state step → AllKeep state (step_unless as_malloc step)
+  unless-keep state true step keeps = λ answer same others is. is
+  unless-keep state false step keeps = some-keep state step keeps
+
+  op-keeps : (state : State) (op : Op) (answers : Answers) → AllKeep state (step_of rules state op answers)
+  op-keeps state (Malloc size site) answers = some-keep state (malloc rules state size site answers.claim) (malloc-keeps state size site answers.claim)
+  op-keeps state (Calloc count size site) answers = some-keep state (calloc rules state count size site answers.claim) (calloc-keeps state count size site answers.claim)
+  op-keeps state (Realloc other size site) answers = unless-keep state (other == 0) (realloc rules state other size site answers) (realloc-keeps state other size site answers)
+  op-keeps state (Reallocarray other count size site) answers =
+      unless-keep state ((other == 0) && is_some (product count size)) (reallocarray rules state other count size site answers) (reallocarray-keeps state other count size site answers)
+  op-keeps state (Free other) answers = some-keep state (free rules state other) (λ others. at-keeps state other (standing rules state other))
+  op-keeps state (Load other) answers = some-keep state (load rules state other) (load-keeps state other)
+  op-keeps state (Store other byte) answers = some-keep state (store rules state other byte) (store-keeps state other byte)
 
   entry-keeps : (state : State) (entry : Entry) → IsLawfulEntry rules state entry → gives_at address entry ≡ false → IsVacant state.live → IsVacant (after rules state entry).live
   entry-keeps state (Phase number) lawful others is = is

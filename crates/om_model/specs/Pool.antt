@@ -6,11 +6,16 @@ pub mod Picks
 pub mod Canaries
 pub mod Junk
 pub mod Steps
+pub mod Product
 pub mod Malloc
+pub mod Calloc
 pub mod Standing
 pub mod Access
 pub mod WriteAfterFree
 pub mod Free
+pub mod Resizing
+pub mod Realloc
 pub mod Journal
+pub mod Taken
 pub mod SecondFree
 pub mod WellFormed

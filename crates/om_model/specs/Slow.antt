@@ -1,8 +1,10 @@
 -- What the plain forms of slow hold, in the terms of the definitions.
-use Rattle.std.specs.Prelude.{ℕ, ◌+◌, ◌%◌, ◌^◌, ◌<◌, ◌==◌, List, [], ◌∷◌, map, Option, IfSome, slice_index_or, if◌then◌else◌}
+use Rattle.std.specs.Prelude.{ℕ, ◌+◌, ◌%◌, ◌^◌, ◌<◌, ◌==◌, List, [], ◌∷◌, map, Option, Some, None, IfSome, slice_index_or, if◌then◌else◌}
 use Rattle.std.specs.List.{flat_map, range_with_len}
 use Rattle.om_model.specs.Pool.Access as access
 use Rattle.om_model.specs.Pool.InUse as used
+use Rattle.om_model.specs.Pool.Realloc as reallocs
+use Rattle.om_model.specs.Pool.Resizing as resizing
 use Rattle.om_model.specs.Pool.Runs as runs
 use Rattle.om_model.specs.Pool.Standing as stands
 use Rattle.om_model.specs.Pool.Steps as steps
@@ -17,9 +19,14 @@ use Rattle.om_model.specs.declared.slow.access.PageState.TheVariants as page_sta
 use Rattle.om_model.specs.declared.slow.calls.Answered.{Answered}
 use Rattle.om_model.specs.declared.slow.in_use.Kind.{Kind}
 use Rattle.om_model.specs.declared.slow.in_use.Kind.TheVariants as kind
+use Rattle.om_model.specs.declared.slow.moving.Resize.{Resize}
+use Rattle.om_model.specs.declared.slow.resizing.Way.{Way}
+use Rattle.om_model.specs.declared.slow.resizing.Way.TheVariants as way
 use Rattle.om_model.specs.declared.slow.standing.Standing.{Standing}
 use Rattle.om_model.specs.declared.slow.standing.Standing.TheVariants as standing
+use Rattle.om_model.specs.declared.slow.steps.Answers.{Answers}
 use Rattle.om_model.specs.declared.slow.steps.Run.{Run}
+use Rattle.om_model.specs.declared.slow.steps.Search.{Search}
 use Rattle.om_model.specs.declared.slow.steps.Wish.{Wish}
 use Rattle.om_model.specs.declared.slow.steps.Wish.TheVariants as wish
 
@@ -47,13 +54,36 @@ standing_in (standing.DelayedPlace place) = stands.DelayedPlace place
 standing_in standing.FreePlace = stands.FreePlace
 standing_in standing.Unaligned = stands.Unaligned
 
+abbrev pub resize_in : Resize → reallocs.Resize
+resize_in asked = record { block = asked.block; place = asked.place; size = asked.size; site = asked.site }
+
+abbrev pub way_in : Way → resizing.Way
+way_in way.Stays = resizing.Stays
+way_in way.Shrinks = resizing.Shrinks
+way_in way.Grows = resizing.Grows
+way_in way.Claims = resizing.Claims
+way_in way.Moves = resizing.Moves
+
+-- a search, or nothing
+abbrev pub searching : Option Search → steps.Wish
+searching None = steps.Nothing
+searching (Some search) = steps.Search search.count search.word
+
 abbrev pub wish_in : Wish → steps.Wish
 wish_in wish.Nothing = steps.Nothing
-wish_in (wish.Search count word) = steps.Search count word
+wish_in (wish.Search search) = steps.Search search.count search.word
+wish_in (wish.At run otherwise) = steps.At (run_in run) (searching otherwise)
 
--- the claim's pages have numbers of 32 bits
+-- what a step goes by: the looks of a search don't matter to it
+abbrev pub told_in : Answers → steps.Answers
+told_in answers = record { claim = answers.claim; looks = []; taken = answers.taken }
+
+-- the pages have numbers of 32 bits
+abbrev pub IsSmallRun : runs.Run → Type 0
+IsSmallRun run = run.first + run.count < 2 ^ 32
+
 abbrev pub IsSmallClaim : Option Move → Type 0
-IsSmallClaim claim = IfSome claim (λ move. (runs.run_of move).first + move.count < 2 ^ 32)
+IsSmallClaim claim = IfSome claim (λ move. IsSmallRun (runs.run_of move))
 
 -- ---- the calls of a script, and how they are read from the journals
 

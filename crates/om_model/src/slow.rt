@@ -1,6 +1,8 @@
 //! The definitions as plain code over lists, for tests to compare with. The rules of a pool are those of a
 //! head and the pool's number.
 mod access;
+mod answers;
+mod calloc;
 mod calls;
 mod canaries;
 mod free;
@@ -11,12 +13,17 @@ mod looks;
 mod malloc;
 mod memory;
 mod moves;
+mod moving;
 mod order;
 mod picks;
+mod product;
+mod realloc;
+mod resizing;
 mod rules;
 mod standing;
 mod state;
 mod steps;
+mod taken;
 mod text;
 mod well_formed;
 mod write_after_free;
@@ -30,7 +37,8 @@ pub use memory::Memory;
 pub use moves::moves_of;
 pub use order::{fit_at, is_zone_order, last_version, owner};
 pub use picks::{open_pages, own_page, own_run, picked_place, place_address};
+pub use resizing::Way;
 pub use standing::{Standing, stands_at};
 pub use state::State;
-pub use steps::{Run, Step, Wish};
+pub use steps::{Answers, Run, Search, Step, Wish};
 pub use text::text_of;

@@ -1,5 +1,6 @@
 -- What becomes of the tables by a page block: on the pool's own run, or on a claimed one.
-use Rattle.std.proofs.Common.{◌≡◌, ℕ, ◌+◌, ◌*◌, ◌≤◌, Bool, true, false, not, ◌&&◌, nat_lt, if◌then◌else◌, List, Option, Some, None, refl, sym, ap, ◌∙◌, subst, arith}
+use Rattle.std.proofs.Common.{◌≡◌, ℕ, ◌+◌, ◌*◌, ◌≤◌, false, not, ◌&&◌, nat_lt, List, length, Option, Some, None, refl, sym, ap, ◌∙◌, subst, arith}
+use Rattle.std.specs.Prelude.{slice_set}
 use Rattle.std.specs.Option.{is_none, option_map}
 use Rattle.std.proofs.lemmas.Bool.{ltb-false}
 use Rattle.om_broker.specs.declared.broker.Claim.{Claim}
@@ -32,18 +33,16 @@ use Rattle.om_pages.specs.declared.kind.PageKind.{PageKind}
 use Rattle.om_pool.specs.Asking.{claim_in}
 use Rattle.om_pool.specs.HoldingsView.{tables_in}
 use Rattle.om_pool.specs.Malloc.{IsBlockOn, IsOwnRun, PutsBlock, TakesRun}
-use Rattle.om_pool.specs.TableSteps.{block_on_pages, claimed_run, fresh_filled, pages_of_block}
+use Rattle.om_pool.specs.TableSteps.{block_on_pages, claimed_run, fresh_filled, pages_of_block, with_page_block}
 use Rattle.om_pool.specs.Tables.{Tables, StandFor}
+use Rattle.om_pool.specs.declared.blocks.Request.{Request}
 use Rattle.om_pool.specs.declared.holdings.Holdings.{Holdings}
 use Rattle.om_pool.proofs.Fills.{fresh-stands, no-canaries, unwritten}
-use Rattle.om_pool.proofs.MallocLaws.{malloc-by, placed_by, IsNewClaim}
+use Rattle.om_pool.proofs.PlacingLaws.{malloc-by, placed_by, IsNewClaim}
 use Rattle.om_pool.proofs.TableBlocks.{block-comes, set-block-again, take-held}
 use Rattle.om_pool.proofs.TablePages.{all-free, free-run, pages-come, words-drawn}
+use Rattle.om_pool.proofs.TableRuns.{guard-count}
 use Rattle.om_pool.proofs.TableTies.{free-unheld, shelf-holds}
-
-guard-count : (count : ℕ) (guards : Bool) → count + (if guards then 1 else 0) ≡ table.block_pages count guards
-guard-count count true = refl
-guard-count count false = omega arith
 
 abbrev pub page-of : Option Page → Option ℕ
 page-of own = option_map (λ page. page.0) own
@@ -68,6 +67,9 @@ module _ (rules : Rules) (size : ℕ) (none : size_class rules size ≡ None) (f
     module _ (tables : Tables) (state : State) (is : IsSound rules state) (stands : StandFor rules tables state) (site : ℕ) where
       abbrev drawn : State
       drawn = drawn_more 1 state
+
+      abbrev request : Request
+      request = record { size = size; site = site }
 
       drawn-is : IsSound rules drawn
       drawn-is = drawn_more-sound rules 1 state is
@@ -103,6 +105,7 @@ module _ (rules : Rules) (size : ℕ) (none : size_class rules size ≡ None) (f
             held = subst All (sym (ap (λ (t : Tables). t.pages) same))
                 (take-held tables.pages first n
                 (all-free rules tables state stands first n there (λ p low high. (run.held_is p low high, ap not (any-none (touches p) (uses rules state) (run.untouched p low high))))));
+            in_blocks = let long : length own.blocks ≡ zone_pages * rules.zones = ap (λ (t : Tables). length t.blocks) same ∙ stands.blocks_all in omega (arith, block-some);
             bytes = λ p low high. ap (λ (t : Tables). frames.is_held t.memory p) same ∙ ap (λ m. frames.is_held m p) stands.memory ∙ shelf-holds state p (is.bytes p) ∙ run.held_is p low high;
           }
 
@@ -126,15 +129,15 @@ module _ (rules : Rules) (size : ℕ) (none : size_class rules size ≡ None) (f
 
       -- on a run that nothing touches
       block-stands : (old_tables : Tables) (old : State) → IsSound rules old → StandFor rules old_tables old → (first : ℕ) → HasRun rules old.held (uses rules old) first n → IsSound rules (after old first)
-          → StandFor rules (block_on_pages rules old_tables first pages) (after old first)
+          → StandFor rules (block_on_pages rules old_tables first pages request) (after old first)
       block-stands old_tables old sound old_stands first run next_is =
           let with_is = unwritten rules (with_block (block first) old) (block first) sound.pages sound.bytes next_is in
           let Run : ℕ → Type 0 = λ count. HasRun rules old.held (uses rules old) first count in
           let comes = block-comes rules old_tables old first size site none sound with_is old_stands (subst Run (sym block-count) run) in
-          let Stands : ℕ → Type 0 = λ count. StandFor rules (record old_tables { pages = table.with_block old_tables.pages first count rules.options.guard }) (with_block (block first) old) in
-          let New : State → Type 0 = λ s. StandFor rules (block_on_pages rules old_tables first pages) s in
+          let Stands : ℕ → Type 0 = λ count. StandFor rules (with_page_block old_tables first count rules.options.guard request) (with_block (block first) old) in
+          let New : State → Type 0 = λ s. StandFor rules (block_on_pages rules old_tables first pages request) s in
           subst New (sym (no-canaries rules (block first) (with_fresh_junk rules (block first) (with_block (block first) old)) none))
-          (fresh-stands rules (block first) (pages_of_block first pages) (extent-is first) (record old_tables { pages = table.with_block old_tables.pages first pages rules.options.guard }) (with_block (block first) old)
+          (fresh-stands rules (block first) (pages_of_block first pages) (extent-is first) (with_page_block old_tables first pages rules.options.guard request) (with_block (block first) old)
           (subst Stands (sym pages_is) comes))
 
       pub record Puts (new : Tables) (own : Option ℕ) (claim : Option Move) (result : Option ℕ) : Type 0 where
@@ -145,12 +148,12 @@ module _ (rules : Rules) (size : ℕ) (none : size_class rules size ≡ None) (f
       puts-on : (old_tables : Tables) (old : State) → IsSound rules old → StandFor rules old_tables old → (first : ℕ) → HasRun rules old.held (uses rules old) first n
           → (own : Option ℕ) (claim : Option Move) → placed_by rules state 1 own claim size site ≡ placed_on rules old first (word_at rules (state.drawn + 1)) size site
           → page_for rules state size ≡ own → IsSound rules ((malloc rules state size site claim).next)
-          → (new : Tables) (result : Option ℕ) → IsBlockOn rules old_tables new first pages result → Puts new own claim result
+          → (new : Tables) (result : Option ℕ) → IsBlockOn rules old_tables new first pages request result → Puts new own claim result
       puts-on old_tables old sound old_stands first run own claim at own_at next_is new result on =
           let whole = at ∙ placed-is old first (word_at rules (state.drawn + 1)) in
           let Step_sound : Step → Type 0 = λ s. IsSound rules s.next in
           let Placed_sound : Placed → Type 0 = λ p. IsSound rules p.next in
-          let after_is = subst Placed_sound whole (subst Step_sound (malloc-by rules state 1 own claim size site fits block-words own_at) next_is) in
+          let after_is = subst Placed_sound whole (subst Step_sound (malloc-by rules state 1 own claim size site block-words own_at fits) next_is) in
           let New : Tables → Type 0 = λ t. StandFor rules t (after old first) in
           let Stands : Placed → Type 0 = λ p. StandFor rules new p.next in
           record {
@@ -164,13 +167,13 @@ module _ (rules : Rules) (size : ℕ) (none : size_class rules size ≡ None) (f
           record { address_is = sym on.1; stands_then = subst New (sym (on.0 ∙ takes.1)) drawn-stands }
 
       pub puts : (mid : Tables) (own : Option Page) → TakesRun tables mid n own → (new : Tables) (answer : Option Claim) (result : Option ℕ) → IsNewClaim rules state n answer → IsSound rules ((malloc rules state size site (claim_in answer)).next)
-          → PutsBlock rules mid new pages result own answer → Puts new (page-of own) (claim_in answer) result
+          → PutsBlock rules mid new pages request result own answer → Puts new (page-of own) (claim_in answer) result
       puts mid (Some page) takes new answer result claim next_is on =
           let first = page.0 in
           let guards = rules.options.guard in
-          let same : block_on_pages rules mid first pages ≡ block_on_pages rules tables first pages =
-          ap (λ t. block_on_pages rules t first pages) takes.1
-          ∙ ap (λ kinds. fresh_filled rules (pages_of_block first pages) (record tables { pages = kinds })) (ap (λ count. table.with_block (table.with_data tables.pages first count) first pages guards) n_is ∙ set-block-again tables.pages first pages guards) in
+          let same : block_on_pages rules mid first pages request ≡ block_on_pages rules tables first pages request =
+          ap (λ t. block_on_pages rules t first pages request) takes.1
+          ∙ ap (λ kinds. fresh_filled rules (pages_of_block first pages) (record (record tables { pages = kinds }) { blocks = slice_set tables.blocks first request })) (ap (λ count. table.with_block (table.with_data tables.pages first count) first pages guards) n_is ∙ set-block-again tables.pages first pages guards) in
           puts-on tables drawn drawn-is drawn-stands first (own-has first takes.0) (Some first) (claim_in answer) refl (block-own mid (Some page) takes) next_is new result
           (record { result_is = on.result_is; new_is = on.new_is ∙ same })
       puts mid None takes new None result claim next_is on = puts-nowhere mid takes new result on
@@ -190,4 +193,4 @@ module _ (rules : Rules) (size : ℕ) (none : size_class rules size ≡ None) (f
             zone = new_run.one_zone;
           })
           None (Some move) refl (block-own mid None takes) next_is new result
-          (record { result_is = on.result_is; new_is = on.new_is ∙ ap (λ t. block_on_pages rules (claimed_run t run) run.first pages) takes.1 })
+          (record { result_is = on.result_is; new_is = on.new_is ∙ ap (λ t. block_on_pages rules (claimed_run t run) run.first pages request) takes.1 })

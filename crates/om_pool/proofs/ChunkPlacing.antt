@@ -29,7 +29,7 @@ use Rattle.om_pool.specs.Malloc.{opened, IsPlacedFirst, IsPlacedOn}
 use Rattle.om_pool.specs.TableSteps.{claimed_run, fresh_page, live_place, settled}
 use Rattle.om_pool.specs.Tables.{Tables, StandFor}
 use Rattle.om_pool.proofs.Fills.{canaries-stand, unwritten}
-use Rattle.om_pool.proofs.MallocLaws.{IsNewRun}
+use Rattle.om_pool.proofs.PlacingLaws.{IsNewRun}
 use Rattle.om_pool.proofs.TablePages.{lowest-page, pages-come, words-drawn}
 use Rattle.om_pool.proofs.TablePicks.{fresh-picked, own-none, own-some}
 use Rattle.om_pool.proofs.TableSteps.{placed-fresh, placed-own}

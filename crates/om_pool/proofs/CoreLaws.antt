@@ -2,7 +2,7 @@
 use Rattle.std.proofs.Common.{◌≡◌, ℕ, ◌-◌, ◌^◌, ◌<◌, ◌≤◌, true, false, List, [], ◌∷◌, ◌++◌, length, min, if◌then◌else◌, Option, Some, IsSomeAnd, is_some, refl, sym, ap, ◌∙◌, subst, arith}
 use Rattle.om_geom.specs.Numbers.{most_zones}
 use Rattle.om_model.specs.Data.CallEntry.{CallEntry}
-use Rattle.om_model.specs.Pool.Journal.{IsLawful, IsLawfulCall, Agrees, GivesUp, MayAnswer, next_of, state_of, step_of, wish_of}
+use Rattle.om_model.specs.Pool.Journal.{Agrees, GivesUp, IsLawful, IsLawfulCall, MayAnswer, entry_of, next_of, state_of, step_of, wish_of}
 use Rattle.om_model.specs.Pool.Rules.{Rules, canary_byte, words_from}
 use Rattle.om_model.specs.Pool.State.{State}
 use Rattle.om_model.specs.Pool.Steps.{Answers, Step, is_denied, KeepsWhereDenied}
@@ -26,10 +26,10 @@ use Rattle.om_pool.specs.Tables.{Tables, StandFor}
 use Rattle.om_words.specs.DrawnWords.{WordSource}
 use Rattle.om_pool.proofs.TableTies.{tied}
 
-abbrev SomeZone : ℕ → Type 0
+abbrev pub SomeZone : ℕ → Type 0
 SomeZone zones = 1 ≤ zones
 
-abbrev FewZones : ℕ → Type 0
+abbrev pub FewZones : ℕ → Type 0
 FewZones zones = zones ≤ most_zones
 
 module _ (core : Core) (is : IsCore core) where
@@ -39,7 +39,7 @@ module _ (core : Core) (is : IsCore core) where
   pub core-tied : IsTied core.state.zones (tables_in core.state)
   core-tied = tied (rules_in core.state) (tables_in core.state) (core_state core) core-sound is.tables is.some_zone is.few_zones
 
-  pub core_drawn : length core.journal.items < 2 ^ 32 - 1 → core.state.words.place < 2 ^ 63 - 1
+  pub core_drawn : length core.journal.items < 2 ^ 32 - 1 → core.state.words.place < 2 ^ 63 - 2
   core_drawn short =
       let few = state_of-drawn (rules_in core.state) core.journal.items in
       let same = is.drawn in
@@ -54,6 +54,9 @@ same-rules old new same =
     ap (λ o. rules_by o new.zones new.words.source) same.opts
     ∙ ap (λ z. rules_by old.opts z new.words.source) same.zones
     ∙ ap (λ (w : WordSource). rules_by old.opts old.zones w.source) same.words
+
+pub same-both : (old mid new : Holdings) → IsSameBut old mid → IsSameBut mid new → IsSameBut old new
+same-both old mid new one two = record { opts = two.opts ∙ one.opts; zones = two.zones ∙ one.zones; words = two.words ∙ one.words }
 
 -- room that is made changes none of it
 module _ (old new : Core) (is : IsCore old) (rules : rules_in new.state ≡ rules_in old.state) (tables : tables_in new.state ≡ tables_in old.state) (words : new.state.words ≡ old.state.words)
@@ -169,6 +172,22 @@ pub taken-keeps : {B : Type 0} (old new : PoolView B) (who : Who) (op : Op) (rep
 taken-keeps old new who op reply step took keeps denied =
     let kept = keeps took.answers (ap is_denied (sym took.reply_is) ∙ denied) in
     record { words = (step took.answers).words; same = took.next ∙ kept.1 }
+
+-- it took a step that is the same for all answers
+pub taken-as : {B : Type 0} (old new : PoolView B) (who : Who) (op : Op) (reply : Reply) (step other : Answers → Step) → ((answers : Answers) → step answers ≡ other answers) → Takes old new who op reply step → Takes old new who op reply other
+taken-as old new who op reply step other same took =
+    let is = same took.answers in
+    record {
+      answers = took.answers;
+      release = took.release;
+      rules = took.rules;
+      may = took.may;
+      reply_is = took.reply_is ∙ ap (λ (s : Step). s.reply) is;
+      gives_up = let Gives : Step → Type 0 = λ s. GivesUp s.release took.release in subst Gives is took.gives_up;
+      next = took.next ∙ ap (λ (s : Step). s.next) is;
+      added = took.added ∙ ap (λ s. old.journal.items ++ Call (entry_of old.rules old.state who op took.answers s took.release) ∷ []) is;
+      spare = took.spare;
+    }
 
 -- with a broker beside each of the cores
 pub taken-with : {B : Type 0} (old new : Core) (before after : B) (who : Who) (op : Op) (reply : Reply) (step : Answers → Step)

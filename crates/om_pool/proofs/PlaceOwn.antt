@@ -21,7 +21,7 @@ use Rattle.om_pool.specs.Malloc.{PlacesBlock}
 use Rattle.om_pool.specs.TableSteps.{fresh_page, FreshPlace, OwnBy, OwnPlace}
 use Rattle.om_pool.specs.Tables.{Tables, StandFor}
 use Rattle.om_pool.proofs.ChunkPlacing.{own-nothing, places-claimed, places-fresh, places-nowhere, places-open, Places}
-use Rattle.om_pool.proofs.MallocLaws.{IsNewClaim}
+use Rattle.om_pool.proofs.PlacingLaws.{IsNewClaim}
 use Rattle.om_pool.proofs.TablePages.{lowest-page}
 use Rattle.om_pool.proofs.TablePicks.{own-none, own-some}
 

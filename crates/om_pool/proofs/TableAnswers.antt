@@ -12,7 +12,7 @@ use Rattle.om_chunk.specs.Places.{ChunkPage, place_at}
 use Rattle.om_chunk.specs.declared.place.Place as chunk
 use Rattle.om_chunk.specs.declared.place.Place.TheVariants as has
 use Rattle.om_geom.specs.Addresses.{address_of, is_in_arena, page_at}
-use Rattle.om_geom.specs.Classes.{data_pages, is_class, places_of, stride_of}
+use Rattle.om_geom.specs.Classes.{is_class, places_of, stride_of}
 use Rattle.om_geom.specs.FitLaws.{find-passes}
 use Rattle.om_geom.specs.Numbers.{first_address, zone_pages}
 use Rattle.om_geom.specs.declared.class.Class.{Class}
@@ -20,7 +20,7 @@ use Rattle.om_model.specs.Pool.Access.{barred, bar_of, page_state, state_by_kind
 use Rattle.om_model.specs.Pool.InUse.{Kind, Chunk, Pages, Guard, Use, use_of_place, uses_of_block, uses, touches, page_kind, is_free_page}
 use Rattle.om_model.specs.Pool.Picks.{place_address, starts_place}
 use Rattle.om_model.specs.Pool.Rules.{Rules}
-use Rattle.om_model.specs.Pool.Standing.{NotHeld, LivePlace, DelayedPlace, Unaligned, block_at, delayed_at, in_pages, at_place, on_page, standing}
+use Rattle.om_model.specs.Pool.Standing.{NotHeld, PageBlock, LivePlace, DelayedPlace, Unaligned, block_at, delayed_at, in_pages, at_place, on_page, standing}
 use Rattle.om_model.specs.Pool.State.{State, delayed, holds, is_held}
 use Rattle.om_model.specs.Pool.WellFormed.{AreAlike}
 use Rattle.om_model.specs.declared.block.Block.{Block}
@@ -34,8 +34,9 @@ use Rattle.om_pages.specs.Kinds as kinds
 use Rattle.om_pages.specs.Tables.{kind_of}
 use Rattle.om_pages.specs.declared.kind.PageKind.TheVariants as page_is
 use Rattle.om_pool.specs.ByTables.{at_block_of, at_place_of, standing_on, standing_by, barred_on, barred_by}
-use Rattle.om_pool.specs.Standing.{IsPageBlock, Means}
-use Rattle.om_pool.specs.Tables.{Tables, StandFor, block_on, kind_by, has_by, place_has, chunk_page, chunk_by}
+use Rattle.om_pool.specs.Blocks.{block_for, request_at, request_of}
+use Rattle.om_pool.specs.Standing.{Means}
+use Rattle.om_pool.specs.Tables.{Tables, StandFor, IsEntered, block_on, kind_by, has_by, place_has, chunk_page, chunk_by}
 use Rattle.om_pool.specs.declared.standing.Standing.TheVariants as code
 use Rattle.om_pool.proofs.WholeBlocks.{IsOfBlock, page-of}
 
@@ -45,7 +46,7 @@ flat-all : {X Y : Type 0} (P : Y → Type 0) (f : X → List Y) (xs : List X) �
 flat-all P f [] all = tt
 flat-all P f (x ∷ xs) all = all-append P (f x) (flat_map f xs) all.0 (flat-all P f xs all.1)
 
-map-all : {X Y : Type 0} (P : Y → Type 0) (f : X → Y) (xs : List X) → AllByRecursion P (map f xs) → AllByRecursion (λ x. P (f x)) xs
+pub map-all : {X Y : Type 0} (P : Y → Type 0) (f : X → Y) (xs : List X) → AllByRecursion P (map f xs) → AllByRecursion (λ x. P (f x)) xs
 map-all P f [] all = tt
 map-all P f (x ∷ xs) all = (all.0, map-all P f xs all.1)
 
@@ -257,15 +258,18 @@ module _ (rules : Rules) (tables : Tables) (state : State) (is : IsSound rules s
   here = page_at address
 
   -- on a data page of a block: its first byte, or another
-  on-data : (block : Block) → IsOfBlock rules state here block → first_address ≤ address → Means (at_block_of address (record { 0 = page_at block.address }) (data_pages block.size)) (standing rules state address)
+  on-data : (block : Block) → IsOfBlock rules state here block → first_address ≤ address → Means (at_block_of tables.blocks address (record { 0 = page_at block.address })) (standing rules state address)
   on-data block of low = by ((here == page_at block.address) && (address_of here == address)) refl
     where
       by : (at : Bool) → ((here == page_at block.address) && (address_of here == address)) ≡ at
-          → Means (if at then code.PageBlock (record { 0 = page_at block.address }) (data_pages block.size) else code.InPageBlock) (standing rules state address)
+          → Means (if at then code.PageBlock (block_for address (request_at tables.blocks (page_at block.address))) else code.InPageBlock) (standing rules state address)
       by true is_at =
           let parts = and_parts (here == page_at block.address) (address_of here == address) is_at in
           let at : block.address ≡ address = of.begins ∙ ap address_of (sym (eqb-true here (page_at block.address) parts.0)) ∙ eqb-true (address_of here) address parts.1 in
-          subst (IsPageBlock (page_at block.address) (data_pages block.size)) (sym (ap (standing rules state) (sym at) ∙ standing-first rules state is block of.live of.none)) (refl, refl)
+          let begins_here : Block → Bool = λ (other : Block). other.address == block.address in
+          let asked = all-find (IsEntered rules tables.blocks) begins_here state.live block stands.blocks of.live of.none in
+          let same : block ≡ block_for address (request_at tables.blocks (page_at block.address)) = ap (λ a. block_for a (request_of block)) at ∙ ap (block_for address) (sym asked) in
+          ap (standing rules state) (sym at) ∙ standing-first rules state is block of.live of.none ∙ ap PageBlock same
       by false isnt =
           let begins = of.begins in
           let from = of.low in
@@ -306,6 +310,7 @@ module _ (rules : Rules) (tables : Tables) (state : State) (is : IsSound rules s
 -- the state has its block, and the tables have its page and place
 pub record HasPlace (rules : Rules) (tables : Tables) (state : State) (address : ℕ) (place : Place) (block : Block) : Type 0 where
   pub found_is : block_at state address ≡ Some block
+  pub waiting : delayed_at state address ≡ None
   pub on_page : page_kind (uses rules state) (page_at address) ≡ Some (Chunk place.class)
   pub place_is : place.address ≡ address
   pub block_is : block.address ≡ address
@@ -336,6 +341,7 @@ module _ (rules : Rules) (tables : Tables) (state : State) (is : IsSound rules s
       let Is : ℕ → Type 0 = λ c. IsTrue (is_class c) in
       record {
         found_is = both.block_is;
+        waiting = both.none;
         on_page = kind ∙ ap (λ c. Some (Chunk c)) same;
         place_is = sym (ap (λ (p : Place). p.address) both.place_is);
         block_is = block-begins rules tables state stands address low there class kind block both.block_is;

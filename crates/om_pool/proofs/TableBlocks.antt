@@ -1,9 +1,10 @@
 -- Tables stand for the state when a page block comes, stands or leaves.
 use Rattle.std.proofs.Common.{◌≡◌, ℕ, ◌+◌, ◌-◌, ◌*◌, ◌<◌, ◌≤◌, ◌⊎◌, inl, inr, Bool, true, false, not, ◌==◌, if◌then◌else◌, List, [], ◌∷◌, length, Option, Some, None, cond, refl, sym, ap, ◌∙◌, subst, arith}
+use Rattle.std.specs.Prelude.{slice_set}
 use Rattle.std.specs.List.{filter, find, flat_map, list_any, AllByRecursion}
 use Rattle.std.specs.Option.{option_map, option_or}
-use Rattle.std.proofs.lemmas.Bool.{true≢false, cases_Bool, cases_eq, cases_lt, and_from, eqb-true, le-leb, lt-ltb, ne_eqb}
-use Rattle.std.proofs.lemmas.List.{same_lists, get_or_default}
+use Rattle.std.proofs.lemmas.Bool.{true≢false, cases_Bool, cases_lt, and_from, eqb-true, le-leb, lt-ltb, ne_eqb}
+use Rattle.std.proofs.lemmas.List.{get_or-set_same, get_or-set_other, length-set}
 use Rattle.std.proofs.lemmas.List.Folds.{find-append}
 use mathlib.Core.Logic.{⊎_elim}
 use Rattle.om_frame.specs.Memory as frames
@@ -17,78 +18,39 @@ use Rattle.om_model.specs.Pool.InUse.{Kind, Chunk, Pages, Guard, Use, uses_of_bl
 use Rattle.om_model.specs.Pool.Malloc.{pages_by_class, pages_for, with_block}
 use Rattle.om_model.specs.Pool.Picks.{place_address, starts_place}
 use Rattle.om_model.specs.Pool.Rules.{Rules, size_class, block_pages}
-use Rattle.om_model.specs.Pool.Standing.{NotHeld, Unaligned, at_place, block_at, delayed_at, in_pages, on_page, standing}
+use Rattle.om_model.specs.Pool.Standing.{NotHeld, PageBlock, Unaligned, at_place, block_at, delayed_at, in_pages, on_page, standing}
 use Rattle.om_model.specs.Pool.State.{State, holds, is_held}
 use Rattle.om_model.specs.Pool.WellFormed.{FitsZone}
 use Rattle.om_model.specs.declared.block.Block.{Block}
 use Rattle.om_model.specs.declared.block.Place.{Place}
-use Rattle.om_model.proofs.Each.{all-weaker, all-find, all-first, none-any, any-none, find-nothing}
+use Rattle.om_model.proofs.Each.{all-weaker, all-append, all-both, all-filter, all-find, all-first, none-any, any-none, find-nothing}
 use Rattle.om_model.proofs.Flat.{all-flat}
 use Rattle.om_model.proofs.Malloc.{some-pages}
 use Rattle.om_model.proofs.PageKinds.{all-have, with_block-kinds, with_block-others, without_block-others, without_block-free}
 use Rattle.om_model.proofs.Places.{HasRun}
-use Rattle.om_model.proofs.Sound.{IsPlaced, IsSound, place-page, shape-begins}
+use Rattle.om_model.proofs.Sound.{IsPlaced, IsSound, place-page, shape-begins, touches-first}
 use Rattle.om_pages.specs.Kinds as kinds
-use Rattle.om_pages.specs.TableLaws.{length-with_run, kind_of-with_run_in, kind_of-with_run_out, kind_of-with_block_data, kind_of-with_block_guard, kind_of-with_block_out}
+use Rattle.om_pages.specs.TableLaws.{length-with_run, kind_of-with_run_in, kind_of-with_run_out, kind_of-with_block_data, kind_of-with_block_out}
 use Rattle.om_pages.specs.Tables as table
 use Rattle.om_pages.specs.declared.kind.PageKind.{PageKind}
 use Rattle.om_pages.specs.declared.kind.PageKind.TheVariants as page_is
-use Rattle.om_pool.specs.Standing.{IsPageBlock}
-use Rattle.om_pool.specs.TableSteps.{freed_run}
-use Rattle.om_pool.specs.Tables.{Tables, StandFor, block_on, kind_by, kind_in, has_by, place_has, chunk_by}
+use Rattle.om_pool.specs.Blocks.{no_request, request_at, request_of}
+use Rattle.om_pool.specs.TableSteps.{freed_run, with_page_block}
+use Rattle.om_pool.specs.Tables.{Tables, StandFor, IsEntered, block_on, kind_by, kind_in, has_by, place_has, chunk_by}
+use Rattle.om_pool.specs.declared.blocks.Request.{Request}
+use Rattle.om_pool.proofs.TableRuns.{guard-count, kind_of-guard, length-with_block, with_block-over}
 use Rattle.om_pool.proofs.TableSteps.{kind-class, kind-stays, or-none, page-same}
 use Rattle.om_pool.proofs.WholeBlocks.{spot, front, guard, of-data, of-guard, data-touched, guard-touched, clear, each-page, only-at, of-found, begins-none}
 
 -- ---- tables alone
 
-tables-agree : (xs ys : List PageKind) → length xs ≡ length ys → ((page : ℕ) → page < length xs → table.kind_of xs page ≡ table.kind_of ys page) → xs ≡ ys
-tables-agree xs ys long same =
-    same_lists xs ys long (λ page d lt. get_or_default xs page d page_is.Absent lt ∙ same page lt ∙ sym (get_or_default ys page d page_is.Absent (omega (arith, long))))
-
-length-with_block : (pages_are : List PageKind) (first pages : ℕ) (guards : Bool) → length (table.with_block pages_are first pages guards) ≡ length pages_are
-length-with_block pages_are first pages true = length-with_run (table.with_data pages_are first pages) (first + pages) 1 (kinds.guard_page first) ∙ length-with_run pages_are first pages (kinds.data_page first pages)
-length-with_block pages_are first pages false = length-with_run pages_are first pages (kinds.data_page first pages)
-
-module _ (pages_are : List PageKind) (first pages : ℕ) where
-  abbrev taken : Bool → List PageKind
-  taken guards = table.with_data pages_are first (table.block_pages pages guards)
-
-  taken-long : (guards : Bool) → length (taken guards) ≡ length pages_are
-  taken-long guards = length-with_run pages_are first (table.block_pages pages guards) (kinds.data_page first (table.block_pages pages guards))
-
-  abbrev IsSame : Bool → ℕ → Type 0
-  IsSame guards page = table.kind_of (table.with_block (taken guards) first pages guards) page ≡ table.kind_of (table.with_block pages_are first pages guards) page
-
-  same-out : (guards : Bool) (page : ℕ) → (page < first) ⊎ (first + table.block_pages pages guards ≤ page) → IsSame guards page
-  same-out guards page out =
-      kind_of-with_block_out (taken guards) first pages guards page out
-      ∙ kind_of-with_run_out pages_are first (table.block_pages pages guards) (kinds.data_page first (table.block_pages pages guards)) page out
-      ∙ sym (kind_of-with_block_out pages_are first pages guards page out)
-
-  same-past : (guards : Bool) (page : ℕ) → page < length pages_are → first + pages ≤ page → IsSame guards page
-  same-past false page there past = same-out false page (inr past)
-  same-past true page there past = ⊎_elim
-      (λ same.
-      ap (table.kind_of (table.with_block (taken true) first pages true)) same ∙ kind_of-with_block_guard (taken true) first pages (omega (arith, taken-long true))
-      ∙ sym (ap (table.kind_of (table.with_block pages_are first pages true)) same ∙ kind_of-with_block_guard pages_are first pages (omega arith)))
-      (λ ne. same-out true page (inr (omega arith)))
-      (cases_eq page (first + pages))
-
-  same-kinds : (guards : Bool) (page : ℕ) → page < length pages_are → IsSame guards page
-  same-kinds guards page there = ⊎_elim
-      (λ below. same-out guards page (inl below))
-      (λ low. ⊎_elim
-      (λ high. kind_of-with_block_data (taken guards) first pages guards page (omega (arith, taken-long guards)) low high ∙ sym (kind_of-with_block_data pages_are first pages guards page there low high))
-      (λ past. same-past guards page there past)
-      (cases_lt page (first + pages)))
-      (cases_lt page first)
-
 -- a block that stands again on its own pages
 pub set-block-again : (pages_are : List PageKind) (first pages : ℕ) (guard : Bool)
     → table.with_block (table.with_data pages_are first (table.block_pages pages guard)) first pages guard ≡ table.with_block pages_are first pages guard
 set-block-again pages_are first pages guard =
-    let long = length-with_block (taken pages_are first pages guard) first pages guard ∙ taken-long pages_are first pages guard in
-    tables-agree _ _ (long ∙ sym (length-with_block pages_are first pages guard)) (λ page there. same-kinds pages_are first pages guard page (omega (arith, long)))
+    let count = table.block_pages pages guard in
+    with_block-over (table.with_data pages_are first count) pages_are first pages guard (length-with_run pages_are first count (kinds.data_page first count))
+    (λ page there out. kind_of-with_run_out pages_are first count (kinds.data_page first count) page out)
 
 -- free pages that become data pages are held
 pub take-held : (pages_are : List PageKind) (first n : ℕ) → table.AreAll kinds.is_free pages_are first n → table.AreAll kinds.is_held (table.with_data pages_are first n) first n
@@ -112,6 +74,14 @@ find-kept leaves test (x ∷ xs) all = by (leaves x) all.0 (find-kept leaves tes
         → find test (cond (not b) (x ∷ filter (λ y. not (leaves y)) xs) (filter (λ y. not (leaves y)) xs)) ≡ cond (test x) (Some x) (find test xs)
     by true fails rest = rest ∙ ap (λ t. cond t (Some x) (find test xs)) (sym (fails refl))
     by false fails rest = ap (λ o. cond (test x) (Some x) o) rest
+
+-- a search that a live block doesn't pass is the same without it
+pub find-left : (rules : Rules) (state : State) → IsSound rules state → (block : Block) → block_at state block.address ≡ Some block → (test : Block → Bool) → test block ≡ false
+    → find test ((without_block state block.address).live) ≡ find test state.live
+find-left rules state is block live test fails =
+    let leaves : Block → Bool = λ other. other.address == block.address in
+    find-kept leaves test state.live
+    (all-weaker (λ other. leaves other ≡ true → other ≡ block) (λ other. leaves other ≡ true → test other ≡ false) state.live (λ other same t. ap test (same t) ∙ fails) (only-at rules state is block.address block live))
 
 -- what a chunk page has, where each of its addresses has the same
 chunk-stays : (rules : Rules) (old new : State) → IsSound rules old → (page : ℕ) → ((address : ℕ) → page_at address ≡ page → place_has new address ≡ place_has old address)
@@ -206,17 +176,45 @@ module _ (rules : Rules) (tables : Tables) (state : State) (first size site : �
         ∙ or-none (block_at state address))
 
   pages-is : table.block_pages data_count rules.options.guard ≡ block_pages rules size
-  pages-is = by rules.options.guard
-    where
-      by : (guards : Bool) → table.block_pages data_count guards ≡ data_count + (if guards then 1 else 0)
-      by true = refl
-      by false = omega arith
+  pages-is = sym (guard-count data_count rules.options.guard)
 
-  guard-there : (page : ℕ) (guards : Bool) → guards ≡ true → page < length tables.pages → page ≡ first + data_count → table.kind_of (table.with_block tables.pages first data_count guards) page ≡ kinds.guard_page first
-  guard-there page true is there same = ap (table.kind_of (table.with_block tables.pages first data_count true)) same ∙ kind_of-with_block_guard tables.pages first data_count (omega arith)
-  guard-there page false is there same = cc
+  -- ---- what was asked for it
 
-  pub block-comes : StandFor rules (record tables { pages = table.with_block tables.pages first (data_pages size) rules.options.guard })
+  abbrev asked : Request
+  asked = request_of new_block
+
+  abbrev later : List Request
+  later = slice_set tables.blocks first asked
+
+  -- no other block of whole pages begins at its first page
+  begin-elsewhere : AllByRecursion (λ (other : Block). size_class rules other.size ≡ None → ¬ (page_at other.address ≡ first)) state.live
+  begin-elsewhere =
+      let some = some-pages rules size none in
+      let sound = is.sound in
+      let P : Use → Type 0 = λ one. (touches first one ≡ false) × IsPlaced rules state.held one in
+      let both = all-both (λ one. touches first one ≡ false) (IsPlaced rules state.held) P (uses rules state) (λ one isnt placed. (isnt, placed)) (run.untouched first (omega arith) (omega arith)) sound.placed in
+      all-weaker (λ other. AllByRecursion P (uses_of_block rules other)) (λ (other : Block). size_class rules other.size ≡ None → ¬ (page_at other.address ≡ first)) state.live
+      (λ other all whole at.
+      let has = of-data rules other whole P all in
+      let placed = has.1 in
+      true≢false (sym (subst (λ page. touches page (front other) ≡ true) at (touches-first (front other) placed.shape)) ∙ has.0))
+      (all-flat (uses_of_block rules) P state.live (all-first P (flat_map (uses_of_block rules) state.live) _ both))
+
+  all-entered : AllByRecursion (IsEntered rules later) next.live
+  all-entered =
+      let some = some-pages rules size none in
+      let within = run.there in
+      all-append (IsEntered rules later) state.live (new_block ∷ [])
+      (all-both (IsEntered rules tables.blocks) (λ (other : Block). size_class rules other.size ≡ None → ¬ (page_at other.address ≡ first)) (IsEntered rules later) state.live
+      (λ other was elsewhere whole. get_or-set_other tables.blocks first (page_at other.address) asked no_request (elsewhere whole) ∙ was whole)
+      stands.blocks begin-elsewhere) (
+        (λ whole.
+            let same : page_at (address_of first) ≡ first = omega arith in
+            ap (request_at later) same ∙ get_or-set_same tables.blocks first asked no_request (omega (arith, stands.blocks_all))),
+        tt,
+      )
+
+  pub block-comes : StandFor rules (with_page_block tables first (data_pages size) rules.options.guard (record { size = size; site = site }))
       (with_block (record { address = address_of first; size = size; site = site }) state)
   block-comes =
       let guards = rules.options.guard in
@@ -225,6 +223,7 @@ module _ (rules : Rules) (tables : Tables) (state : State) (first size site : �
       record {
         pages_all = length-with_block tables.pages first data_count guards ∙ stands.pages_all;
         chunks_all = stands.chunks_all;
+        blocks_all = length-set tables.blocks first asked ∙ stands.blocks_all;
         pages = λ page there. ⊎_elim
             (λ on_data.
             let low = on_data.0 in
@@ -233,7 +232,7 @@ module _ (rules : Rules) (tables : Tables) (state : State) (first size site : �
             ∙ sym (kind-here page low (omega arith) Pages (data-kind page low high) ∙ ap (λ p. kinds.data_page p data_count) same))
             (λ others. ⊎_elim
             (λ on_guard.
-            guard-there page guards on_guard.0 (omega arith) on_guard.1
+            kind_of-guard tables.pages first data_count page guards on_guard.0 (omega arith) on_guard.1
             ∙ sym (kind-here page (omega (arith, on_guard.1)) (omega (arith, on_guard.1, pages-is, ap (table.block_pages data_count) on_guard.0)) Guard (guard-kind page on_guard.0 on_guard.1) ∙ ap kinds.guard_page same))
             (λ out.
             kind_of-with_block_out tables.pages first data_count guards page (subst (λ n. (page < first) ⊎ (first + n ≤ page)) (sym pages-is) out)
@@ -254,6 +253,7 @@ module _ (rules : Rules) (tables : Tables) (state : State) (first size site : �
             ∙ sym (ap (chunk_by next page) (out-kind page out)))
             others)
             (spot rules size first page);
+        blocks = all-entered;
         slots = stands.slots;
         memory = stands.memory;
       }
@@ -324,10 +324,10 @@ module _ (rules : Rules) (tables : Tables) (state : State) (is : IsSound rules s
   has : (page : ℕ) → AllByRecursion (Has page) (uses_of_block rules block)
   has page = let sound = is.sound in of-found rules state is (Has page) leaves block live (all-have rules state.held (uses rules state) sound page)
 
-  was-data : (page : ℕ) → first ≤ page → page < first + data_pages block.size → page_kind (uses rules state) page ≡ Some Pages
+  pub was-data : (page : ℕ) → first ≤ page → page < first + data_pages block.size → page_kind (uses rules state) page ≡ Some Pages
   was-data page low high = sym (of-data rules block none (Has page) (has page) (data-touched rules block first none begins page low high))
 
-  was-guard : (page : ℕ) → rules.options.guard ≡ true → page ≡ first + data_pages block.size → page_kind (uses rules state) page ≡ Some Guard
+  pub was-guard : (page : ℕ) → rules.options.guard ≡ true → page ≡ first + data_pages block.size → page_kind (uses rules state) page ≡ Some Guard
   was-guard page guards same = sym (of-guard rules block none (Has page) (has page) guards (guard-touched rules block first none begins page same))
 
   module _ (page : ℕ) (low : first ≤ page) (high : page < first + count) where
@@ -359,14 +359,8 @@ module _ (rules : Rules) (tables : Tables) (state : State) (is : IsSound rules s
     left-others : page_kind (uses rules left) page ≡ page_kind (uses rules state) page
     left-others = without_block-others rules state is block.address block live page left-clear
 
-    -- a search for other blocks
-    left-find : (test : Block → Bool) → test block ≡ false → find test left.live ≡ find test state.live
-    left-find test fails =
-        find-kept leaves test state.live
-        (all-weaker (λ other. leaves other ≡ true → other ≡ block) (λ other. leaves other ≡ true → test other ≡ false) state.live (λ other same t. ap test (same t) ∙ fails) (only-at rules state is block.address block live))
-
     left-block : block_on rules left page ≡ block_on rules state page
-    left-block = left-find (λ other. list_any (touches page) (uses_of_block rules other)) (any-none (touches page) (uses_of_block rules block) left-clear)
+    left-block = find-left rules state is block live (λ other. list_any (touches page) (uses_of_block rules other)) (any-none (touches page) (uses_of_block rules block) left-clear)
 
     left-stays : kind_in rules state page ≡ kind_in rules left page
     left-stays =
@@ -377,7 +371,7 @@ module _ (rules : Rules) (tables : Tables) (state : State) (is : IsSound rules s
     left-place address at =
         let some = some-pages rules block.size none in
         let other : ¬ (block.address ≡ address) = λ same. ⊎_elim (λ below. absurd (omega (arith, ap page_at same))) (λ past. absurd (omega (arith, ap page_at same))) out in
-        ap (has_by (delayed_at state address)) (left-find (λ (b : Block). b.address == address) (ne_eqb block.address address other))
+        ap (has_by (delayed_at state address)) (find-left rules state is block live (λ (b : Block). b.address == address) (ne_eqb block.address address other))
 
   side : (page : ℕ) → ((first ≤ page) × (page < first + count)) ⊎ ((page < first) ⊎ (first + count ≤ page))
   side page = ⊎_elim (λ below. inr (inl below)) (λ low. ⊎_elim (λ high. inl (low, high)) (λ past. inr (inr past)) (cases_lt page (first + count))) (cases_lt page first)
@@ -386,6 +380,7 @@ module _ (rules : Rules) (tables : Tables) (state : State) (is : IsSound rules s
   block-goes = record {
     pages_all = length-with_run tables.pages first count page_is.Free ∙ stands.pages_all;
     chunks_all = stands.chunks_all;
+    blocks_all = stands.blocks_all;
     pages = λ page there. ⊎_elim
         (λ inside. kind_of-with_run_in tables.pages first count page_is.Free page (omega (arith, stands.pages_all)) inside.0 inside.1 ∙ sym (left-kind page inside.0 inside.1))
         (λ out. kind_of-with_run_out tables.pages first count page_is.Free page out ∙ stands.pages page there ∙ left-stays page out)
@@ -394,55 +389,46 @@ module _ (rules : Rules) (tables : Tables) (state : State) (is : IsSound rules s
         (λ inside. no-chunks page inside.0 inside.1 ∙ sym (ap (chunk_by left page) (left-free page inside.0 inside.1)))
         (λ out. chunk-stays rules state left is page (left-place page out) (page_kind (uses rules state) page) refl ∙ sym (ap (chunk_by left page) (left-others page out)))
         (side page);
+    blocks = all-filter (IsEntered rules tables.blocks) (λ (other : Block). not (leaves other)) state.live stands.blocks;
     slots = stands.slots;
     memory = stands.memory;
   }
 
 -- ---- where a page block stands
 
-pub record HasBlock (rules : Rules) (state : State) (address first pages : ℕ) : Type 0 where
-  pub block : Block
+pub record HasBlock (rules : Rules) (state : State) (address : ℕ) (block : Block) : Type 0 where
   pub found : block_at state address ≡ Some block
   pub at : block.address ≡ address
   pub none : size_class rules block.size ≡ None
-  pub kind : page_kind (uses rules state) (page_at address) ≡ Some Pages
-  pub first_is : page_at address ≡ first
-  pub pages_is : data_pages block.size ≡ pages
 
-module _ (rules : Rules) (state : State) (is : IsSound rules state) (address first pages : ℕ) where
-  not-place : (class : ℕ) (found : Option Block) (delayed : Option Place) → IsPageBlock first pages (at_place class address found delayed) → ⊥
-  not-place class found (Some place) stands = stands
-  not-place class (Some block) None stands = stands
-  not-place class None None stands = stands
+module _ (rules : Rules) (state : State) (is : IsSound rules state) (address : ℕ) (block : Block) where
+  not-place : (class : ℕ) (found : Option Block) (delayed : Option Place) → at_place class address found delayed ≡ PageBlock block → ⊥
+  not-place class found (Some place) stands = cc
+  not-place class (Some other) None stands = cc
+  not-place class None None stands = cc
 
-  not-start : (class : ℕ) (starts : Bool) → IsPageBlock first pages (if starts then at_place class address (block_at state address) (delayed_at state address) else Unaligned) → ⊥
+  not-start : (class : ℕ) (starts : Bool) → (if starts then at_place class address (block_at state address) (delayed_at state address) else Unaligned) ≡ PageBlock block → ⊥
   not-start class true stands = not-place class (block_at state address) (delayed_at state address) stands
-  not-start class false stands = stands
+  not-start class false stands = cc
 
-  in-block : page_kind (uses rules state) (page_at address) ≡ Some Pages → (found : Option Block) → block_at state address ≡ found → IsPageBlock first pages (in_pages found) → HasBlock rules state address first pages
-  in-block kind_is None found_is stands = absurd stands
-  in-block kind_is (Some block) found_is stands =
-      let begins_here : Block → Bool = λ other. other.address == address in
-      let at : block.address ≡ address = eqb-true block.address address (find-passes begins_here state.live block found_is) in
-      record {
-        block = block;
-        found = found_is;
-        at = at;
-        none = begins-none rules state is (page_at address) kind_is block begins_here found_is (ap page_at at);
-        kind = kind_is;
-        first_is = ap page_at (sym at) ∙ stands.0;
-        pages_is = stands.1;
-      }
+  in-block : page_kind (uses rules state) (page_at address) ≡ Some Pages → (found : Option Block) → block_at state address ≡ found → in_pages found ≡ PageBlock block → HasBlock rules state address block
+  in-block kind_is None found_is stands = cc
+  in-block kind_is (Some other) found_is stands =
+      let begins_here : Block → Bool = λ (one : Block). one.address == address in
+      let same : other ≡ block = cc in
+      let found : block_at state address ≡ Some block = found_is ∙ ap Some same in
+      let at : block.address ≡ address = eqb-true block.address address (find-passes begins_here state.live block found) in
+      record { found = found; at = at; none = begins-none rules state is (page_at address) kind_is block begins_here found (ap page_at at) }
 
-  by-kind : (kind : Option Kind) → page_kind (uses rules state) (page_at address) ≡ kind → IsPageBlock first pages (on_page state address kind) → HasBlock rules state address first pages
-  by-kind None kind_is stands = absurd stands
+  by-kind : (kind : Option Kind) → page_kind (uses rules state) (page_at address) ≡ kind → on_page state address kind ≡ PageBlock block → HasBlock rules state address block
+  by-kind None kind_is stands = cc
   by-kind (Some Pages) kind_is stands = in-block kind_is (block_at state address) refl stands
-  by-kind (Some Guard) kind_is stands = absurd stands
+  by-kind (Some Guard) kind_is stands = cc
   by-kind (Some (Chunk class)) kind_is stands = absurd (not-start class (starts_place class address) stands)
 
-  by-held : (held : Bool) → IsPageBlock first pages (if held then on_page state address (page_kind (uses rules state) (page_at address)) else NotHeld) → HasBlock rules state address first pages
+  by-held : (held : Bool) → (if held then on_page state address (page_kind (uses rules state) (page_at address)) else NotHeld) ≡ PageBlock block → HasBlock rules state address block
   by-held true stands = by-kind (page_kind (uses rules state) (page_at address)) refl stands
-  by-held false stands = absurd stands
+  by-held false stands = cc
 
-  pub page-block : IsPageBlock first pages (standing rules state address) → HasBlock rules state address first pages
+  pub page-block : standing rules state address ≡ PageBlock block → HasBlock rules state address block
   page-block = by-held (holds rules state address)

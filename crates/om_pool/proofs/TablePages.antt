@@ -59,7 +59,7 @@ find-agree : (p q : ℕ → Bool) (xs : List ℕ) → AllByRecursion (λ x. p x 
 find-agree p q [] same = refl
 find-agree p q (x ∷ xs) same = ap (λ b. cond b (Some x) (find p xs)) same.0 ∙ ap (λ o. cond (q x) (Some x) o) (find-agree p q xs same.1)
 
-all-agree : (p q : ℕ → Bool) (xs : List ℕ) → ((x : ℕ) → p x ≡ q x) → list_all p xs ≡ list_all q xs
+pub all-agree : (p q : ℕ → Bool) (xs : List ℕ) → ((x : ℕ) → p x ≡ q x) → list_all p xs ≡ list_all q xs
 all-agree p q [] same = refl
 all-agree p q (x ∷ xs) same = ap (λ b. b && list_all p xs) (same x) ∙ ap (λ b. q x && b) (all-agree p q xs same)
 
@@ -176,7 +176,7 @@ module _ (rules : Rules) (tables : Tables) (state : State) (is : IsSound rules s
 -- ---- runs of pages that come and go
 
 -- a page of a run, or one of its others
-in-run : (run : Run) (page : ℕ) → is_page_of run page ≡ true → (run.first ≤ page) × (page < run.first + run.count)
+pub in-run : (run : Run) (page : ℕ) → is_page_of run page ≡ true → (run.first ≤ page) × (page < run.first + run.count)
 in-run run page inside =
     let parts = and_parts (nat_le run.first page) (nat_lt page (run.first + run.count)) inside in
     (leb-true run.first page parts.0, ltb-true page (run.first + run.count) parts.1)
@@ -213,10 +213,12 @@ module _ (rules : Rules) (tables : Tables) (state : State) (stands : StandFor ru
   pages-go = record {
     pages_all = length-with_run tables.pages run.first run.count page_is.Absent ∙ stands.pages_all;
     chunks_all = stands.chunks_all;
+    blocks_all = stands.blocks_all;
     pages = run-kinds page_is.Absent (without_pages run state)
         (λ page yes there. sym (ap (λ b. kind_where b page) (held-without_run run state.held page ∙ ap (λ b. is_held state.held page && not b) yes ∙ and-false (is_held state.held page))))
         (λ page no. sym (ap (λ b. kind_where b page) (held-without_run run state.held page ∙ ap (λ b. is_held state.held page && not b) no ∙ and-true (is_held state.held page))));
     chunks = stands.chunks;
+    blocks = stands.blocks;
     slots = stands.slots;
     memory = ap (λ m. frames.without_pages m run.first run.count) stands.memory;
   }
@@ -239,12 +241,14 @@ module _ (rules : Rules) (tables : Tables) (state : State) (stands : StandFor ru
     pages-come = record {
       pages_all = length-with_run tables.pages run.first run.count page_is.Free ∙ stands.pages_all;
       chunks_all = stands.chunks_all;
+      blocks_all = stands.blocks_all;
       pages = run-kinds page_is.Free (with_pages run state)
           (λ page yes there. sym (
           ap (λ b. kind_where b page) (held-with_run run state.held page ∙ ap (λ b. is_held state.held page || b) yes ∙ or-true (is_held state.held page))
           ∙ ap (kind_by (block_on rules state page)) (fresh-kind page yes)))
           (λ page no. sym (ap (λ b. kind_where b page) (held-with_run run state.held page ∙ ap (λ b. is_held state.held page || b) no ∙ or-false (is_held state.held page))));
       chunks = stands.chunks;
+      blocks = stands.blocks;
       slots = stands.slots;
       memory = ap (λ m. frames.with_frames m (frames.zero_frames run.first run.count)) stands.memory;
     }
@@ -253,14 +257,25 @@ module _ (rules : Rules) (tables : Tables) (state : State) (stands : StandFor ru
 
 module _ (rules : Rules) (tables : Tables) (state : State) (stands : StandFor rules tables state) where
   pub words-drawn : (count : ℕ) → StandFor rules tables (drawn_more count state)
-  words-drawn count = record { pages_all = stands.pages_all; chunks_all = stands.chunks_all; pages = stands.pages; chunks = stands.chunks; slots = stands.slots; memory = stands.memory }
+  words-drawn count = record {
+    pages_all = stands.pages_all;
+    chunks_all = stands.chunks_all;
+    blocks_all = stands.blocks_all;
+    pages = stands.pages;
+    chunks = stands.chunks;
+    blocks = stands.blocks;
+    slots = stands.slots;
+    memory = stands.memory;
+  }
 
   pub bytes-filled : (byte : ℕ) (extent : Extent) → StandFor rules (record tables { memory = filled tables.memory extent.first extent.len byte }) (filled_with byte extent state)
   bytes-filled byte extent = record {
     pages_all = stands.pages_all;
     chunks_all = stands.chunks_all;
+    blocks_all = stands.blocks_all;
     pages = stands.pages;
     chunks = stands.chunks;
+    blocks = stands.blocks;
     slots = stands.slots;
     memory = ap (λ m. filled m extent.first extent.len byte) stands.memory;
   }
@@ -269,8 +284,10 @@ module _ (rules : Rules) (tables : Tables) (state : State) (stands : StandFor ru
   byte-written address byte = record {
     pages_all = stands.pages_all;
     chunks_all = stands.chunks_all;
+    blocks_all = stands.blocks_all;
     pages = stands.pages;
     chunks = stands.chunks;
+    blocks = stands.blocks;
     slots = stands.slots;
     memory = ap (λ m. with_byte m address byte) stands.memory;
   }

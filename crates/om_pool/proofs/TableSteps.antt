@@ -25,7 +25,7 @@ use Rattle.om_model.specs.Pool.Standing.{block_at, delayed_at}
 use Rattle.om_model.specs.Pool.State.{State, delayed, is_held}
 use Rattle.om_model.specs.declared.block.Block.{Block}
 use Rattle.om_model.specs.declared.block.Place.{Place}
-use Rattle.om_model.proofs.Each.{all-both, all-first, all-second, all-find, any-none, none-any, any-passing}
+use Rattle.om_model.proofs.Each.{all-append, all-both, all-first, all-second, all-find, any-none, none-any, any-passing}
 use Rattle.om_model.proofs.Malloc.{chunk-uses}
 use Rattle.om_model.proofs.PageKinds.{all-have, with_block-kinds, with_block-others}
 use Rattle.om_model.proofs.Places.{IsUntouched, not-touched, untouched-free, chunk-is}
@@ -34,7 +34,7 @@ use Rattle.om_pages.specs.Tables.{with_run}
 use Rattle.om_pages.specs.TableLaws.{length-with_run, kind_of-with_run_in, kind_of-with_run_out}
 use Rattle.om_pages.specs.declared.kind.PageKind.{PageKind}
 use Rattle.om_pages.specs.declared.kind.PageKind.TheVariants as table
-use Rattle.om_pool.specs.Tables.{Tables, StandFor, block_on, kind_by, kind_in, has_by, place_has, chunk_by}
+use Rattle.om_pool.specs.Tables.{Tables, StandFor, IsEntered, block_on, kind_by, kind_in, has_by, place_has, chunk_by}
 
 -- ---- tables of chunk pages, by what each address has
 
@@ -289,6 +289,10 @@ module _ (rules : Rules) (tables : Tables) (state : State) (address page class i
       let P : Use → Type 0 = λ one. touches page one ≡ true → Some one.kind ≡ kinds_of rules next page in
       sym ((subst (AllByRecursion P) own-uses (with_block-kinds rules state own_block page next_is)).0 (touches-place own own-place page ∙ eq-eqb page page refl))
 
+  -- what was asked for it stands in its place
+  block-entered : AllByRecursion (IsEntered rules tables.blocks) next.live
+  block-entered = all-append (IsEntered rules tables.blocks) state.live (own_block ∷ []) stand.blocks ((λ none. let isnt : Some class ≡ None = sym class_is ∙ none in cc), tt)
+
   -- what the addresses have
 
   has-here : IsVacant state address → place_has next address ≡ has.Live size site
@@ -334,12 +338,14 @@ module _ (rules : Rules) (tables : Tables) (state : State) (address page class i
       record {
         pages_all = stand.pages_all;
         chunks_all = shown.long;
+        blocks_all = stand.blocks_all;
         pages = λ p low. stand.pages p low ∙ ⊎_elim
             (λ same. kind-stays (is_held state.held p) (block_on rules state p) (block_on rules next p) (kinds_of rules state p) (kinds_of rules next p)
             (ap (kind_by (block_on rules state p)) (ap (kinds_of rules state) same ∙ kind_before) ∙ sym (ap (kind_by (block_on rules next p)) (ap (kinds_of rules next) same ∙ kind-here))))
             (λ ne. others-stay p ne)
             (cases_eq p page);
         chunks = λ p low. shown.each p low ∙ sym (same-table next p (kinds_of rules next p));
+        blocks = block-entered;
         slots = stand.slots;
         memory = stand.memory;
       }
@@ -372,6 +378,7 @@ module _ (rules : Rules) (tables : Tables) (state : State) (address page class i
       record {
         pages_all = length-with_run tables.pages page 1 kind ∙ stand.pages_all;
         chunks_all = shown.long;
+        blocks_all = stand.blocks_all;
         pages = λ p low. ⊎_elim
             (λ same.
             kind_of-with_run_in tables.pages page 1 kind p (omega arith) (omega arith) (omega arith)
@@ -380,6 +387,7 @@ module _ (rules : Rules) (tables : Tables) (state : State) (address page class i
             (λ ne. kind_of-with_run_out tables.pages page 1 kind p (⊎_elim (λ low. inl low) (λ high. inr (omega arith)) (cases_lt p page)) ∙ stand.pages p low ∙ others-stay p ne)
             (cases_eq p page);
         chunks = λ p low. shown.each p low ∙ sym (same-table next p (kinds_of rules next p));
+        blocks = block-entered;
         slots = stand.slots;
         memory = stand.memory;
       }

@@ -100,6 +100,7 @@ module _ (rules : Rules) (tables : Tables) (state : State) (is : IsSound rules s
   tied some few = record {
     pages_all = stands.pages_all;
     chunks_all = stands.chunks_all;
+    blocks_all = stands.blocks_all;
     memory_all = ap length stands.memory ∙ is.pages;
     chunks = λ page. ⊎_elim (tie-in page) (tie-past page) (cases_lt page (zone_pages * rules.zones));
     memory = λ page. ⊎_elim (memory-in page) (memory-past page) (cases_lt page (zone_pages * rules.zones));

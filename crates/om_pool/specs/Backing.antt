@@ -1,16 +1,21 @@
--- What ties a pool to its broker. The broker has made the moves that stand in the journal, it has seen every version that
--- the journal names, and it has the pages that are held. Each look of a search shows that the zone had no such run. The
--- versions that the journal names for a zone never fall.
-use Rattle.std.specs.Prelude.{◌≡◌, ℕ, true, List, Contains, None, IsSomeAnd}
+-- What ties a pool to its broker. The broker has made the moves that stand in the journal, it has seen every version
+-- that the journal names, and it has the pages that are held. Each look of a search shows that the zone had no such
+-- run, and that of a claim at a given run that some page of it was held. The versions that the journal names for a
+-- zone never fall.
+use Rattle.std.specs.Prelude.{◌≡◌, ℕ, ◌+◌, ◌<◌, ◌≤◌, true, List, Contains, None, IsSomeAnd}
 use Rattle.std.specs.List.{AllByRecursion, flat_map}
 use Rattle.om_broker.specs.Claims.{Adds}
 use Rattle.om_broker.specs.Having.{IsSeenMove}
 use Rattle.om_broker.specs.Sights.{Seen, Names, IsNoOlder, IsNewer, Has}
 use Rattle.om_broker.specs.declared.broker.Broker as broker
+use Rattle.om_geom.specs.Addresses.{bit_of}
 use Rattle.om_geom.specs.Fit.{fit_of, has_bit, searched_bit}
+use Rattle.om_geom.specs.Numbers.{zone_pages}
 use Rattle.om_model.specs.Data.CallEntry.{CallEntry}
 use Rattle.om_model.specs.Pool.Rules.{Rules}
+use Rattle.om_model.specs.Pool.Runs.{Run}
 use Rattle.om_model.specs.Pool.State.{is_held}
+use Rattle.om_model.specs.Pool.Taken.{taken_of, TakenLook}
 use Rattle.om_model.specs.Zones.Looks.{named_in, Rises}
 use Rattle.om_model.specs.Zones.Moves.{moves_of, moves_of_call, pages_sought, search_word}
 use Rattle.om_model.specs.declared.entry.Entry.{Entry}
@@ -34,6 +39,20 @@ pub record IsFullIn (sight : List Seen) (count word : ℕ) (look : Look) : Type 
   pub among : Contains sight item
   pub names : Names look.zone look.version item
   pub full : fit_of (has_bit item.bits) count (searched_bit word) ≡ None
+
+-- what was seen at the look had a page of the run, which is a run of the look's zone
+pub record IsHeldIn (sight : List Seen) (run : Run) (look : Look) : Type 0 where
+  pub item : Seen
+  pub among : Contains sight item
+  pub names : Names look.zone look.version item
+  pub bit : ℕ
+  pub from : bit_of run.first ≤ bit
+  pub to : bit < bit_of run.first + run.count
+  pub low : bit < zone_pages
+  pub held : has_bit item.bits bit ≡ true
+
+abbrev pub IsHeldThere : List Seen → TakenLook → Type 0
+IsHeldThere sight taken = IsHeldIn sight taken.run taken.look
 
 -- each look at a zone that a search passed over is such a one
 abbrev pub HasFullLooks : Rules → List Seen → Entry → Type 0
@@ -64,4 +83,5 @@ pub record IsBacked {B A : Type 0} (g : broker.Ghosts B A) (rules : Rules) (held
   pub moves : AllByRecursion (IsSeenMove sight) (moves_of rules 0 entries)
   pub named : AllByRecursion (IsSeenName sight) (flat_map named_in entries)
   pub looks : AllByRecursion (HasFullLooks rules sight) entries
+  pub taken : AllByRecursion (IsHeldThere sight) (taken_of rules entries)
   pub rising : Rises (flat_map named_in entries)

@@ -1,5 +1,5 @@
 -- Questions as they are asked of the tables.
-use Rattle.std.specs.Prelude.{ℕ, ◌&&◌, ◌==◌, Option, Some, None, if◌then◌else◌}
+use Rattle.std.specs.Prelude.{ℕ, ◌&&◌, ◌==◌, List, Option, Some, None, if◌then◌else◌}
 use Rattle.om_chunk.specs.Pages.{place_in}
 use Rattle.om_chunk.specs.declared.place.Place as chunk
 use Rattle.om_chunk.specs.declared.place.Place.TheVariants as has
@@ -12,7 +12,9 @@ use Rattle.om_model.specs.declared.reply.Reply.TheVariants.{Miss}
 use Rattle.om_pages.specs.Tables.{kind_of}
 use Rattle.om_pages.specs.declared.kind.PageKind.{PageKind}
 use Rattle.om_pages.specs.declared.kind.PageKind.TheVariants.{Absent, Free, Chunk, Block, Guard}
+use Rattle.om_pool.specs.Blocks.{block_for, request_at}
 use Rattle.om_pool.specs.Tables.{Tables}
+use Rattle.om_pool.specs.declared.blocks.Request.{Request}
 use Rattle.om_pool.specs.declared.standing.Standing.{Standing}
 use Rattle.om_pool.specs.declared.standing.Standing.TheVariants.{NotHeld, FreePage, PageBlock, InPageBlock, OnGuard, LivePlace, DelayedPlace, FreePlace, Unaligned}
 
@@ -25,15 +27,15 @@ at_place_of class address (Some has.Delayed) = DelayedPlace (record { address = 
 at_place_of class address (Some (has.Live size site)) = LivePlace (record { address = address; class = class }) (record { address = address; size = size; site = site })
 
 -- on a data page: the block's first byte, or another
-abbrev pub at_block_of : ℕ → Page → ℕ → Standing
-at_block_of address first pages =
-    if page_at address == first.0 && address_of (page_at address) == address then PageBlock first pages else InPageBlock
+abbrev pub at_block_of : List Request → ℕ → Page → Standing
+at_block_of blocks address first =
+    if page_at address == first.0 && address_of (page_at address) == address then PageBlock (block_for address (request_at blocks first.0)) else InPageBlock
 
 abbrev pub standing_on : Tables → ℕ → PageKind → Standing
 standing_on tables address Absent = NotHeld
 standing_on tables address Free = FreePage
 standing_on tables address (Chunk class) = at_place_of class.0 address (place_in tables.chunks address)
-standing_on tables address (Block first pages) = at_block_of address first pages
+standing_on tables address (Block first pages) = at_block_of tables.blocks address first
 standing_on tables address (Guard first) = OnGuard
 
 abbrev pub standing_by : ℕ → Tables → ℕ → Standing

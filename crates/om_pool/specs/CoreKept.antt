@@ -5,10 +5,14 @@ use Rattle.om_model.specs.Data.Room.{Looks}
 use Rattle.om_model.specs.Pool.Journal.{IsLawful, state_of}
 use Rattle.om_model.specs.Pool.Rules.{canary_byte}
 use Rattle.om_model.specs.Pool.State.{State}
+use Rattle.om_model.specs.Pool.Steps.{Answers, Step}
+use Rattle.om_model.specs.declared.operation.Op.{Op}
+use Rattle.om_model.specs.declared.operation.Who.{Who}
+use Rattle.om_model.specs.declared.reply.Reply.{Reply}
 use Rattle.om_broker.specs.declared.broker.Broker as broker
 use Rattle.om_pool.specs.Backing.{IsBacked}
 use Rattle.om_pool.specs.HoldingsView.{rules_in, tables_in}
-use Rattle.om_pool.specs.PoolView.{PoolView}
+use Rattle.om_pool.specs.PoolView.{PoolView, Takes, UsesBroker}
 use Rattle.om_pool.specs.Tables.{StandFor}
 use Rattle.om_pool.specs.declared.pool_core.Core.{Core}
 
@@ -51,3 +55,10 @@ pub record HasRoom (core : Core) : Type 0 where
   pub entry : 1 ≤ core.journal.spare
   pub page : 1 ≤ core.state.chunks.spare
   pub looks : IsSome core.room
+
+-- a call was answered: its entry stands in the journal, and the core and its broker go on
+pub record IsAnswered {B A : Type 0} (g : broker.Ghosts B A) (old new : Core) (before after : B) (who : Who) (op : Op) (reply : Reply) (step : Answers → Step) : Type 0 where
+  pub kept : IsCore new
+  pub backed : IsBackedCore g new after
+  pub uses : UsesBroker g (view_of old before) (view_of new after) reply
+  pub taken : Takes (core_view old) (core_view new) who op reply step

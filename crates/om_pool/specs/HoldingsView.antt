@@ -9,7 +9,7 @@ abbrev pub rules_in : Holdings → Rules
 rules_in own = rules_by own.opts own.zones own.words.source
 
 abbrev pub tables_in : Holdings → Tables
-tables_in own = record { pages = own.pages; chunks = own.chunks.pages; slots = own.slots; memory = own.shelf }
+tables_in own = record { pages = own.pages; chunks = own.chunks.pages; blocks = own.blocks; slots = own.slots; memory = own.shelf }
 
 -- so many more words are drawn
 abbrev pub with_drawn : ℕ → Holdings → Holdings

@@ -1,8 +1,9 @@
--- A pool as its callers see it: the rules by which it answers, its state, its journal, for how many calls room is already
--- made, and its broker.
-use Rattle.std.specs.Prelude.{◌≡◌, ℕ, ◌+◌, ◌-◌, ◌^◌, ◌<◌, ◌≤◌, ◌⊎◌, Bool, true, false, [], ◌∷◌, ◌++◌, length, Option}
+-- A pool as its callers see it: the rules by which it answers, its state, its journal, for how many calls room is
+-- already made, and its broker.
+use Rattle.std.specs.Prelude.{◌≡◌, ℕ, ◌+◌, ◌*◌, ◌-◌, ◌^◌, ◌<◌, ◌≤◌, ◌⊎◌, Bool, true, false, [], ◌∷◌, ◌++◌, length, Option, IsSome}
 use Rattle.om_opts.specs.declared.options.Opts.{Opts}
 use Rattle.om_words.specs.DrawnWords.{Source}
+use Rattle.om_geom.specs.Numbers.{zone_pages}
 use Rattle.om_model.specs.Data.CallEntry.{CallEntry}
 use Rattle.om_model.specs.Data.Room.{Entries}
 use Rattle.om_model.specs.Pool.Journal.{IsLawful, GivesUp, MayAnswer, entry_of, state_of, wish_of}
@@ -77,6 +78,13 @@ pub record IsAsBefore {B : Type 0} (old new : PoolView B) : Type 0 where
 
 -- ---- the broker of a pool
 
+-- the moves that a claim takes at most, one and one for each of its pages, and those of a call, which makes two at most
+abbrev pub claim_moves : ℕ
+claim_moves = zone_pages + 1
+
+abbrev pub call_moves : ℕ
+call_moves = 2 * claim_moves
+
 -- a null, or a fault in its place, for want of a run of pages
 abbrev pub says_no_run : Reply → Bool
 says_no_run (Null NoRun) = true
@@ -96,13 +104,18 @@ module _ {B A : Type 0} (g : broker.Ghosts B A) where
   abbrev pub moves_of_pool : PoolView B → ℕ
   moves_of_pool pool = g.moves_left pool.broker + length pool.state.held
 
-  -- What a call makes of the broker: it is of the same arena, with the same part of it; a call takes at most 66 of its
-  -- moves; no run is said to be wanting where it wasn't asked; and it made the moves of the entry, and saw in this call
-  -- all that the entry names.
+  -- it was asked in this call, unless the count of asks stands at its end
+  abbrev pub WasAsked : B → B → Type 0
+  WasAsked old new = (g.asks old < g.asks new) ⊎ (g.asks new ≡ 2 ^ 64 - 1)
+
+  -- What a call makes of the broker: it is of the same arena, with the same part of it; a call takes at most so many of its
+  -- moves; no run is said to be wanting, or to be taken, where it wasn't asked; and it made the moves of the entry, and
+  -- saw in this call all that the entry names.
   pub record UsesBroker (old new : PoolView B) (reply : Reply) : Type 0 where
     pub same : IsSameBroker g old.broker new.broker
-    pub spent : moves_of_pool old ≤ moves_of_pool new + 66
-    pub asked : says_no_run reply ≡ true → (g.asks old.broker < g.asks new.broker) ⊎ (g.asks new.broker ≡ 2 ^ 64 - 1)
+    pub spent : moves_of_pool old ≤ moves_of_pool new + call_moves
+    pub asked : says_no_run reply ≡ true → WasAsked old.broker new.broker
     pub entry : CallEntry
+    pub taken : IsSome entry.taken → WasAsked old.broker new.broker
     pub added : new.journal.items ≡ old.journal.items ++ Call entry ∷ []
     pub adds : AddsEntry g old.rules entry old.broker new.broker

@@ -1,5 +1,5 @@
 -- What a step makes of the tables.
-use Rattle.std.specs.Prelude.{◌≡◌, ℕ, ◌*◌, ◌≤◌, Bool, ◌==◌, not, nat_le, if◌then◌else◌, length, Option, Some, None, IsSomeAnd}
+use Rattle.std.specs.Prelude.{◌≡◌, ℕ, ◌*◌, ◌≤◌, Bool, ◌==◌, not, nat_le, if◌then◌else◌, length, Option, Some, None, IsSomeAnd, slice_set}
 use Rattle.std.specs.Option.{is_none}
 use Rattle.om_chunk.specs.Pages.{page_in, page_left, with_freed, with_page, with_place}
 use Rattle.om_chunk.specs.Picks.{picked, place_on}
@@ -27,6 +27,7 @@ use Rattle.om_pages.specs.Tables.{free_count, kind_of, with_block, with_run}
 use Rattle.om_pages.specs.declared.kind.PageKind.{PageKind}
 use Rattle.om_pages.specs.declared.kind.PageKind.TheVariants.{Absent, Free, Chunk}
 use Rattle.om_pool.specs.Tables.{Tables}
+use Rattle.om_pool.specs.declared.blocks.Request.{Request}
 
 -- a held page on which nothing lies becomes a chunk page
 abbrev pub fresh_page : Tables → ℕ → ℕ → Tables
@@ -43,6 +44,11 @@ gone_run tables run = record (record tables { pages = with_run tables.pages run.
 -- pages become free
 abbrev pub freed_run : Tables → Run → Tables
 freed_run tables run = record tables { pages = with_run tables.pages run.first run.count Free }
+
+-- held pages become those of a block of so many data pages, with its guard; what was asked for it stands at the first
+abbrev pub with_page_block : Tables → ℕ → ℕ → Bool → Request → Tables
+with_page_block tables first pages guards request =
+    record (record tables { pages = with_block tables.pages first pages guards }) { blocks = slice_set tables.blocks first request }
 
 -- a place gets a block
 abbrev pub live_place : Tables → ℕ → ℕ → ℕ → Tables
@@ -64,10 +70,6 @@ delayed_place tables slot place = record (record tables { chunks = with_place ta
 -- more pages are free than the pool keeps
 abbrev pub is_surplus_by : Rules → Tables → Bool
 is_surplus_by rules tables = not (nat_le (free_count tables.pages) rules.options.cache)
-
--- the run became free: it leaves where it is surplus
-abbrev pub kept_or_gone : Rules → Tables → Run → Tables
-kept_or_gone rules tables run = if is_surplus_by rules tables then gone_run tables run else tables
 
 -- ---- bytes
 
@@ -124,10 +126,11 @@ settled rules tables address class size site =
 abbrev pub pages_of_block : ℕ → ℕ → Extent
 pages_of_block first pages = record { first = address_of first; len = page_size * pages }
 
--- a block of so many data pages on held pages, with the guard where guards are on; its bytes are filled by the junk level
-abbrev pub block_on_pages : Rules → Tables → ℕ → ℕ → Tables
-block_on_pages rules tables first pages =
-    fresh_filled rules (pages_of_block first pages) (record tables { pages = with_block tables.pages first pages rules.options.guard })
+-- a block of so many data pages on held pages, with the guard where guards are on; its bytes are filled by the junk
+-- level
+abbrev pub block_on_pages : Rules → Tables → ℕ → ℕ → Request → Tables
+block_on_pages rules tables first pages request =
+    fresh_filled rules (pages_of_block first pages) (with_page_block tables first pages rules.options.guard request)
 
 -- ---- tables that agree with each other
 
@@ -138,6 +141,7 @@ ChunkTie kind there = there ≡ None
 pub record IsTied (zones : ℕ) (tables : Tables) : Type 0 where
   pub pages_all : length tables.pages ≡ zone_pages * zones
   pub chunks_all : length tables.chunks ≡ zone_pages * zones
+  pub blocks_all : length tables.blocks ≡ zone_pages * zones
   pub memory_all : length tables.memory ≡ zone_pages * zones
   pub chunks : (page : ℕ) → ChunkTie (kind_of tables.pages page) (page_in tables.chunks page)
   pub memory : (page : ℕ) → frames.is_held tables.memory page ≡ is_held (kind_of tables.pages page)

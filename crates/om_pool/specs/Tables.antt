@@ -1,7 +1,8 @@
--- The tables of a pool: what each page is, what each place of a chunk page has, the slots, and the bytes of the held
--- pages. They stand for a state where they say of each page and of each place what is so in the state.
+-- The tables of a pool: what each page is, what each place of a chunk page has, what was asked for the page block
+-- that begins at a page, the slots, and the bytes of the held pages. They stand for a state where they say of each
+-- page, of each place and of each page block what is so in the state.
 use Rattle.std.specs.Prelude.{◌≡◌, ℕ, ◌*◌, ◌<◌, List, length, map, Option, Some, None, if◌then◌else◌}
-use Rattle.std.specs.List.{find, list_any, range_with_len}
+use Rattle.std.specs.List.{find, list_any, range_with_len, AllByRecursion}
 use Rattle.om_chunk.specs.Pages.{page_in}
 use Rattle.om_chunk.specs.Places.{ChunkPage}
 use Rattle.om_chunk.specs.declared.place.Place as chunk
@@ -12,7 +13,7 @@ use Rattle.om_geom.specs.Numbers.{zone_pages}
 use Rattle.om_geom.specs.declared.address.Extent.{Extent}
 use Rattle.om_model.specs.Pool.InUse.{Kind, Chunk, Pages, Guard, touches, page_kind, uses, uses_of_block}
 use Rattle.om_model.specs.Pool.Picks.{place_address}
-use Rattle.om_model.specs.Pool.Rules.{Rules}
+use Rattle.om_model.specs.Pool.Rules.{Rules, size_class}
 use Rattle.om_model.specs.Pool.Standing.{block_at, delayed_at}
 use Rattle.om_model.specs.Pool.State.{State, is_held}
 use Rattle.om_model.specs.Pool.WriteAfterFree.{slot_extents}
@@ -22,10 +23,13 @@ use Rattle.om_pages.specs.Kinds.{data_page, guard_page}
 use Rattle.om_pages.specs.Tables.{kind_of}
 use Rattle.om_pages.specs.declared.kind.PageKind.{PageKind}
 use Rattle.om_pages.specs.declared.kind.PageKind.TheVariants as page_is
+use Rattle.om_pool.specs.Blocks.{request_at, request_of}
+use Rattle.om_pool.specs.declared.blocks.Request.{Request}
 
 pub record Tables : Type 0 where
   pub pages : List PageKind
   pub chunks : List (Option ChunkPage)
+  pub blocks : List Request
   pub slots : List (Option Extent)
   pub memory : List (List ℕ)
 
@@ -71,12 +75,20 @@ abbrev pub chunk_by : State → ℕ → Option Kind → Option ChunkPage
 chunk_by state page (Some (Chunk class)) = Some (chunk_page state page class)
 chunk_by state page other = None
 
+-- ---- what was asked for a block
+
+-- where the block has whole pages, what was asked for it stands at the page where it begins
+abbrev pub IsEntered : Rules → List Request → Block → Type 0
+IsEntered rules blocks block = size_class rules block.size ≡ None → request_at blocks (page_at block.address) ≡ request_of block
+
 -- ---- tables that stand for a state
 
 pub record StandFor (rules : Rules) (tables : Tables) (state : State) : Type 0 where
   pub pages_all : length tables.pages ≡ zone_pages * rules.zones
   pub chunks_all : length tables.chunks ≡ zone_pages * rules.zones
+  pub blocks_all : length tables.blocks ≡ zone_pages * rules.zones
   pub pages : (page : ℕ) → page < zone_pages * rules.zones → kind_of tables.pages page ≡ kind_in rules state page
   pub chunks : (page : ℕ) → page < zone_pages * rules.zones → page_in tables.chunks page ≡ chunk_by state page (page_kind (uses rules state) page)
+  pub blocks : AllByRecursion (IsEntered rules tables.blocks) state.live
   pub slots : tables.slots ≡ slot_extents state.slots
   pub memory : tables.memory ≡ state.memory

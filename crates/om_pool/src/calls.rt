@@ -2,13 +2,16 @@
 ghost use Rattle.std.specs.Prelude.{◌≡◌, ◌*◌, ◌-◌, ◌^◌, ◌<◌, ◌≤◌, [], length, IfOk, IfErr, IsTrue, OnOk};
 ghost use Rattle.om_geom.specs.Numbers.{most_zones, zone_pages};
 ghost use Rattle.om_model.specs.Pool.Access.{load, store};
+ghost use Rattle.om_model.specs.Pool.Calloc.{calloc};
 ghost use Rattle.om_model.specs.Pool.Free.{free};
 ghost use Rattle.om_model.specs.Pool.Malloc.{malloc};
+ghost use Rattle.om_model.specs.Pool.Realloc.{realloc, reallocarray};
 ghost use Rattle.om_model.specs.Pool.Rules.{canary_byte};
 ghost use Rattle.om_model.specs.Pool.State.{opening};
-ghost use Rattle.om_pool.specs.PoolView.{rules_by, HasMade, HasWhole, IsRun, IsAlone, IsAsBefore, IsKeptWhereDenied, Takes, UsesBroker};
+ghost use Rattle.om_pool.specs.PoolView.{call_moves, rules_by, HasMade, HasWhole, IsAlone, IsAsBefore, IsKeptWhereDenied, IsRun, Takes, UsesBroker};
 
 use crate::pool_core::Core;
+use crate::realloc::Ask;
 use om_broker::Broker;
 use om_geom::Addr;
 use om_model::{Journal, Op, Reply, Who};
@@ -90,7 +93,7 @@ impl<B: Broker> Pool<B> {
         requires room { 1 ≤ self.old.spare }
         requires short { length self.old.journal.items < 2 ^ 32 - 1 }
         requires own { who.hop ≡ 0 }
-        requires moves { 66 ≤ B.moves_left self.old.broker }
+        requires moves { call_moves ≤ B.moves_left self.old.broker }
         ensures taken { Takes self.old self.new who (Op.Malloc size site) result
             (λ answers. malloc self.old.rules self.old.state size site answers.claim) }
         ensures denied { IsKeptWhereDenied self.old self.new result }
@@ -100,6 +103,87 @@ impl<B: Broker> Pool<B> {
         ensures made { HasMade B.Broker self.new }
     {
         self.core.malloc(rt, &mut self.broker, who, size, site)
+    }
+
+    /// Allocates, as in calloc(3), `count` items of `size` bytes each: as malloc does their bytes, and all of
+    /// these are zeros. Where so many bytes have no number of 64 bits, that is null at once, without a word.
+    pub fn calloc<R: Wait>(&mut self, rt: &R, who: Who, count: u64, size: u64, site: u64) -> Reply
+        requires room { 1 ≤ self.old.spare }
+        requires short { length self.old.journal.items < 2 ^ 32 - 1 }
+        requires own { who.hop ≡ 0 }
+        requires moves { call_moves ≤ B.moves_left self.old.broker }
+        ensures taken { Takes self.old self.new who (Op.Calloc count size site) result
+            (λ answers. calloc self.old.rules self.old.state count size site answers.claim) }
+        ensures denied { IsKeptWhereDenied self.old self.new result }
+        ensures uses { UsesBroker B.Broker self.old self.new result }
+        ensures before { IsRun self.old }
+        ensures run { IsRun self.new }
+        ensures made { HasMade B.Broker self.new }
+    {
+        self.core
+            .calloc(rt, &mut self.broker, who, count, size, site)
+    }
+
+    /// Gives `size` bytes to the block at an address other than 0, as realloc(3), and answers where it is then. It
+    /// stays where its place or its data pages do; it gives up its last pages; it grows over the pages after it,
+    /// which are free pages of the pool or claimed; or it moves, with the bytes that both sizes have in common,
+    /// and the old block leaves as in a free. Under always_move it moves each time. An address that can't be
+    /// freed is answered as by free, and a delayed place is always a double free; a null or a fault keeps the
+    /// block, its size and all bytes.
+    pub fn realloc<R: Wait>(&mut self, rt: &R, who: Who, addr: Addr, size: u64, site: u64) -> Reply
+        requires room { 1 ≤ self.old.spare }
+        requires short { length self.old.journal.items < 2 ^ 32 - 1 }
+        requires moves { call_moves ≤ B.moves_left self.old.broker }
+        requires not_0 { 1 ≤ addr.0 }
+        ensures taken { Takes self.old self.new who (Op.Realloc addr.0 size site) result
+            (λ answers. realloc self.old.rules self.old.state addr.0 size site answers) }
+        ensures denied { IsKeptWhereDenied self.old self.new result }
+        ensures uses { UsesBroker B.Broker self.old self.new result }
+        ensures before { IsRun self.old }
+        ensures run { IsRun self.new }
+        ensures made { HasMade B.Broker self.new }
+    {
+        let op = Op::Realloc {
+            addr: addr.0,
+            size,
+            site,
+        };
+        let ask = Ask {
+            who,
+            op,
+            size,
+            site,
+        };
+        self.core.realloc(rt, &mut self.broker, ask, addr.0)
+    }
+
+    /// Gives as many bytes as `count` items of `size` bytes each to the block at an address, as realloc does.
+    /// Where so many bytes have no number of 64 bits, that is null at once, before the address is looked at, and
+    /// at address 0 that alone can be asked.
+    pub fn reallocarray<R: Wait>(
+        &mut self,
+        rt: &R,
+        who: Who,
+        addr: Addr,
+        count: u64,
+        size: u64,
+        site: u64,
+    ) -> Reply
+        requires room { 1 ≤ self.old.spare }
+        requires short { length self.old.journal.items < 2 ^ 32 - 1 }
+        requires moves { call_moves ≤ B.moves_left self.old.broker }
+        requires overflows { addr.0 ≡ 0 → 2 ^ 64 ≤ count * size }
+        ensures taken { Takes self.old self.new who (Op.Reallocarray addr.0 count size site) result
+            (λ answers. reallocarray self.old.rules self.old.state addr.0 count size site
+            answers) }
+        ensures denied { IsKeptWhereDenied self.old self.new result }
+        ensures uses { UsesBroker B.Broker self.old self.new result }
+        ensures before { IsRun self.old }
+        ensures run { IsRun self.new }
+        ensures made { HasMade B.Broker self.new }
+    {
+        self.core
+            .reallocarray(rt, &mut self.broker, who, addr.0, count, size, site)
     }
 
     /// Frees an address. A live place is delayed in the slot that a word chooses; the pages of a page

@@ -1,27 +1,20 @@
 //! Free of an address, by what stands there.
-ghost use Rattle.std.specs.Prelude.{◌≡◌, ◌+◌, ◌-◌, ◌*◌, ◌%◌, ◌^◌, ◌<◌, ◌≤◌, ◌&&◌, ◌||◌, [], ◌∷◌, ◌++◌, None, length, IfSome, true, false, if◌then◌else◌};
-ghost use Rattle.om_broker.specs.Claims.{HasFrames};
+ghost use Rattle.std.specs.Prelude.{◌≡◌, ◌-◌, ◌%◌, ◌^◌, ◌<◌, ◌≤◌, [], ◌∷◌, ◌++◌, None, length, false, if◌then◌else◌};
 ghost use Rattle.om_delay.specs.Slots.{slot_count};
-ghost use Rattle.om_frame.specs.Frames.{zero_frames, AreHeld};
-ghost use Rattle.om_geom.specs.Addresses.{bit_of, page_at};
-ghost use Rattle.om_geom.specs.Numbers.{zone_pages};
 ghost use Rattle.om_model.specs.Pool.Free.{freed_again, told};
 ghost use Rattle.om_model.specs.Pool.Steps.{unchanged};
 ghost use Rattle.om_model.specs.declared.entry.Entry.TheVariants.{Call};
 ghost use Rattle.om_pool.specs.CoreKept.{core_state, view_of, IsBackedCore, IsCore, HasRoom};
-ghost use Rattle.om_pages.specs.Kinds.{is_free};
-ghost use Rattle.om_pages.specs.Tables.{AreAll};
-ghost use Rattle.om_pool.specs.Free.{FreeIs, Frees, Evicts, IsBlockAt, IsKeptOrGone, IsLiveAt, IsThere, IsWholeAt};
+ghost use Rattle.om_pool.specs.Free.{FreeIs, Frees, IsBlockAt, IsLiveAt, IsWholeAt};
 ghost use Rattle.om_pool.specs.HoldingsView.{rules_in};
 ghost use Rattle.om_pool.specs.PoolView.{says_no_run, UsesBroker};
 ghost use Rattle.om_pool.specs.Unasked.{unasked_entry, IsQuiet};
 
-use crate::holdings::page_at;
 use crate::pool_core::Core;
 use crate::standing::Standing;
 use om_broker::Broker;
 use om_delay::{Changed, SLOT_COUNT};
-use om_geom::{Class, Extent, Page};
+use om_geom::Class;
 use om_model::{Block, Drawn, Fault, Move, Op, Place, Reply, Who};
 use std::sync::Wait;
 
@@ -45,9 +38,7 @@ impl Core {
     {
         match self.state.standing(address) {
             Standing::NotHeld => self.answer(who, address, Reply::Miss),
-            Standing::PageBlock { first, pages } => {
-                self.free_block(rt, broker, who, address, first, pages)
-            }
+            Standing::PageBlock { block } => self.free_block(rt, broker, who, address, block),
             Standing::FreePage | Standing::InPageBlock | Standing::OnGuard => {
                 self.answer(who, address, Reply::Fault(Fault::Bogus))
             }
@@ -163,30 +154,9 @@ impl Core {
             self.enter_free(who, address, reply, Drawn::one(word), None);
             return reply;
         }
-        let before = self.state.delay(place, slot);
-        self.state.fill_freed(place);
-        let release = self.evict(rt, broker, before);
+        let release = self.move_to_slot(rt, broker, place, slot);
         self.enter_free(who, address, Reply::Done, Drawn::one(word), release);
         Reply::Done
-    }
-
-    // The place left its slot. Where its page became free and is surplus, it is let go.
-    fn evict<R: Wait, B: Broker>(
-        &mut self,
-        rt: &R,
-        broker: &mut B,
-        before: Option<Extent>,
-    ) -> Option<Move>
-        requires place { IfSome before (IsThere self.old.state) }
-        requires has { IfSome before (λ gone.
-            HasFrames (B.made broker.old) (zero_frames (page_at gone.first) 1)) }
-        ensures { Evicts B.Broker self.old self.new broker.old broker.new before result }
-    {
-        let gone = before?;
-        if !self.state.set_free(gone.first) {
-            return None;
-        }
-        self.keep_or_release(rt, broker, Page(page_at(gone.first) as u32), 1)
     }
 
     // The pages of a page block become free, with its guard. Where they are surplus they are let go.
@@ -196,48 +166,21 @@ impl Core {
         broker: &mut B,
         who: Who,
         address: u64,
-        first: Page,
-        pages: u32,
+        block: Block,
     ) -> Reply
         requires kept { IsCore self.old }
         requires backed { IsBackedCore B.Broker self.old broker.old }
         requires room { HasRoom self.old }
-        requires block { IsBlockAt self.old address first.0 pages }
+        requires block { IsBlockAt self.old address block }
         ensures kept { IsCore self.new }
         ensures backed { IsBackedCore B.Broker self.new broker.new }
         ensures uses { UsesBroker B.Broker (view_of self.old broker.old)
             (view_of self.new broker.new) result }
         ensures taken { Frees self.old self.new who address result }
     {
-        let n = self.state.with_guard(pages);
-        self.state.fill_freed_pages(first, pages);
-        self.state.free_pages(first, n);
-        let release = self.keep_or_release(rt, broker, first, n);
+        let release = self.leave_block(rt, broker, block);
         self.enter_free(who, address, Reply::Done, Drawn::empty(), release);
         Reply::Done
-    }
-
-    // Pages became free. They stay, or are let go where they are surplus.
-    fn keep_or_release<R: Wait, B: Broker>(
-        &mut self,
-        rt: &R,
-        broker: &mut B,
-        first: Page,
-        n: u32,
-    ) -> Option<Move>
-        requires some { 1 ≤ n }
-        requires one_zone { bit_of first.0 + n ≤ zone_pages }
-        requires free { AreAll is_free self.old.state.pages first.0 n }
-        requires held { AreHeld self.old.state.shelf first.0 n }
-        requires has { HasFrames (B.made broker.old) (zero_frames first.0 n) }
-        ensures { IsKeptOrGone B.Broker self.old self.new broker.old broker.new
-            (record { first = first.0; count = n }) result }
-    {
-        if !self.state.is_surplus() {
-            return None;
-        }
-        let frames = self.state.leave(first, n);
-        Some(broker.release(rt, frames))
     }
 
     fn enter_free(
@@ -258,8 +201,8 @@ impl Core {
     }
 }
 
-// The slot that a word chooses.
-fn slot_by(word: u32) -> u32
+/// The slot that a word chooses.
+pub(crate) fn slot_by(word: u32) -> u32
     ensures slot { result ≡ word % slot_count }
     ensures low { result < slot_count }
 {

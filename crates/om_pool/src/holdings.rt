@@ -14,11 +14,13 @@ ghost use Rattle.om_pages.specs.FreeRuns.{lowest_run};
 ghost use Rattle.om_pages.specs.Kinds.{is_absent, is_free, is_held};
 ghost use Rattle.om_pages.specs.Tables as table;
 ghost use Rattle.om_pool.specs.Asking.{one_page};
+ghost use Rattle.om_pool.specs.Blocks.{no_requests};
 ghost use Rattle.om_pool.specs.HoldingsView.{rules_in, tables_in, with_drawn, IsSameBut};
 ghost use Rattle.om_pool.specs.Malloc.{TakesRun};
 ghost use Rattle.om_pool.specs.PoolView.{rules_by};
-ghost use Rattle.om_pool.specs.TableSteps.{claimed_run, fresh_page, freed_place, freed_run, gone_run, is_surplus_by, live_place, page_goes, FreshPlace, IsTied, OwnPlace};
+ghost use Rattle.om_pool.specs.TableSteps.{claimed_run, fresh_page, freed_place, freed_run, gone_run, is_surplus_by, live_place, page_goes, with_page_block, FreshPlace, IsTied, OwnPlace};
 
+use crate::blocks::{BlockTable, Request};
 use om_chunk::{ChunkPages, Picked};
 use om_delay::Slots;
 use om_frame::{Bundle, Shelf};
@@ -29,8 +31,8 @@ use om_words::Words;
 use std::alloc::{AllocError, Global};
 
 /// The rules and the tables of a pool. The page table says what each page is, the chunk pages what each
-/// of their places has, and the shelf has the bytes of the held pages; a slot has the bytes of a
-/// delayed place, or nothing.
+/// of their places has, the block table what was asked for the page block that begins at a page, and the
+/// shelf has the bytes of the held pages; a slot has the bytes of a delayed place, or nothing.
 #[derive(Drop)]
 pub(crate) struct Holdings {
     pub(crate) opts: Opts,
@@ -38,6 +40,7 @@ pub(crate) struct Holdings {
     pub(crate) words: Words,
     pub(crate) pages: PageTable,
     pub(crate) chunks: ChunkPages,
+    pub(crate) blocks: BlockTable,
     pub(crate) slots: Slots,
     pub(crate) shelf: Shelf,
 }
@@ -56,6 +59,7 @@ impl Holdings {
         ensures zones { IfOk result (λ own. own.zones ≡ zones) }
         ensures pages { IfOk result (λ own. own.pages ≡ table.no_pages zones) }
         ensures chunks { IfOk result (λ own. own.chunks.pages ≡ chunks.no_pages zones) }
+        ensures blocks { IfOk result (λ own. own.blocks ≡ no_requests zones) }
         ensures slots { IfOk result (λ own. own.slots ≡ no_slots) }
         ensures drawn { IfOk result (λ own. own.words.place ≡ words.place) }
         ensures memory { IfOk result (λ own. own.shelf ≡ no_pages zones) }
@@ -66,6 +70,7 @@ impl Holdings {
             words,
             pages: PageTable::new(alloc, zones)?,
             chunks: ChunkPages::new(alloc, zones)?,
+            blocks: BlockTable::new(alloc, zones)?,
             slots: Slots::new(),
             shelf: Shelf::new(alloc, zones)?,
         })
@@ -156,6 +161,7 @@ impl Holdings {
         ensures tables { tables_in self.new
             ≡ claimed_run (tables_in self.old) (record { first = first.0; count = n }) }
         ensures chunks { self.new.chunks ≡ self.old.chunks }
+        ensures requests { self.new.blocks ≡ self.old.blocks }
         ensures same { IsSameBut self.old self.new }
     {
         self.pages.add_run(first, n);
@@ -198,16 +204,18 @@ impl Holdings {
         if self.opts.guard { pages + 1 } else { pages }
     }
 
-    /// Makes held pages those of a block of so many data pages, with its guard where guards are on.
-    pub(crate) fn set_block(&mut self, first: Page, pages: u32)
+    /// Makes held pages those of a block of so many data pages, with its guard where guards are on, and
+    /// keeps what was asked for it.
+    pub(crate) fn set_block(&mut self, first: Page, pages: u32, request: Request)
         requires held { table.AreAll is_held self.old.pages first.0
             (table.block_pages pages self.old.opts.guard) }
-        ensures tables { tables_in self.new ≡ record (tables_in self.old) {
-          pages = table.with_block self.old.pages first.0 pages self.old.opts.guard;
-        } }
+        requires there { first.0 < length self.old.blocks }
+        ensures tables { tables_in self.new ≡ with_page_block (tables_in self.old) first.0 pages
+            self.old.opts.guard request }
         ensures same { IsSameBut self.old self.new }
     {
         self.pages.set_block(first, pages, self.opts.guard);
+        self.blocks.set(first, request);
     }
 
     /// Makes held pages free.

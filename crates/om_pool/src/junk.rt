@@ -69,8 +69,8 @@ impl Holdings {
         self.fill(addr_of(first), len, FREED_BYTE);
     }
 
-    // Writes the byte to `len` places.
-    fn fill(&mut self, at: Addr, len: u32, byte: u8)
+    /// Writes the byte to `len` places.
+    pub(crate) fn fill(&mut self, at: Addr, len: u32, byte: u8)
         requires bytes { IsHeldPart self.old.shelf at.0 len }
         ensures tables { tables_in self.new
             ≡ filled_by byte (record { first = at.0; len = len }) (tables_in self.old) }

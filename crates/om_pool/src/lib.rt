@@ -2,13 +2,21 @@
 #![tactic(auto)]
 
 mod access;
+mod blocks;
+mod calloc;
 mod calls;
 mod canaries;
 mod free;
 mod holdings;
+mod in_place;
 mod junk;
+mod leaving;
 mod malloc;
+mod moving;
+mod placing;
 mod pool_core;
+mod realloc;
+mod resizing;
 mod slots;
 mod standing;
 

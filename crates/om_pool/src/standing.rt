@@ -8,6 +8,7 @@ ghost use Rattle.om_pool.specs.ByTables.{at_block_of, at_place_of, standing_by, 
 ghost use Rattle.om_pool.specs.HoldingsView.{tables_in};
 ghost use Rattle.om_pool.specs.TableSteps.{IsTied};
 
+use crate::blocks::Request;
 use crate::holdings::Holdings;
 use om_chunk::PlaceState;
 use om_geom::{Addr, Class, Page, addr_of, page_of};
@@ -20,7 +21,7 @@ use om_pages::PageKind;
 pub(crate) enum Standing {
     NotHeld,
     FreePage,
-    PageBlock { first: Page, pages: u32 },
+    PageBlock { block: Block },
     InPageBlock,
     OnGuard,
     LivePlace { place: Place, block: Block },
@@ -54,7 +55,7 @@ impl Holdings {
             PageKind::Absent => Standing::NotHeld,
             PageKind::Free => Standing::FreePage,
             PageKind::Chunk(class) => self.at_place(address, class),
-            PageKind::Block { first, pages } => at_block(address, page, first, pages),
+            PageKind::Block { first, .. } => self.at_block(address, page, first),
             PageKind::Guard { .. } => Standing::OnGuard,
         }
     }
@@ -81,17 +82,24 @@ impl Holdings {
             PlaceState::Unaligned => Standing::Unaligned,
         }
     }
-}
 
-// The address is on a data page of the block.
-fn at_block(address: u64, page: Page, first: Page, pages: u32) -> Standing
-    requires page { page.0 ≡ page_at address }
-    requires there { page.0 < zone_pages * most_zones }
-    ensures { result ≡ at_block_of address first pages }
-{
-    if page == first && addr_of(page).0 == address {
-        Standing::PageBlock { first, pages }
-    } else {
-        Standing::InPageBlock
+    // The address is on a data page of the block that begins at the first page.
+    fn at_block(&self, address: u64, page: Page, first: Page) -> Standing
+        requires page { page.0 ≡ page_at address }
+        requires there { page.0 < zone_pages * most_zones }
+        ensures { result ≡ at_block_of self.now.blocks address first }
+    {
+        if page == first && addr_of(page).0 == address {
+            let Request { size, site } = self.blocks.find(first);
+            Standing::PageBlock {
+                block: Block {
+                    address,
+                    size,
+                    site,
+                },
+            }
+        } else {
+            Standing::InPageBlock
+        }
     }
 }

@@ -6,6 +6,7 @@ mod judges;
 mod lawful;
 mod slots;
 mod trial;
+mod zeros;
 
 use super::*;
 use om_geom::MOST_ZONES;

@@ -95,7 +95,7 @@ run_arguments_of (command ∷ arguments) = if bytes_eq command (codes "run") the
 
 -- what these options ask for is built
 abbrev pub is_built : Opts → Bool
-is_built o = not (o.always_move || o.xmalloc || o.dump)
+is_built o = not (o.xmalloc || o.dump)
 
 -- the head of a run by such arguments: one pool is kept
 abbrev pub head_of : RunArguments → Head

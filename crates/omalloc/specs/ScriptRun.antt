@@ -1,8 +1,9 @@
 -- Script run. Given the replies to its calls, a script takes its commands in order, from number 1 on, with
 -- all variables 0. It ends after its last command, or at the first outcome that is a fault. Its calls stand in
 -- the journals, all of them in phase 0 so far.
-use Rattle.std.specs.Prelude.{◌≡◌, ℕ, ◌+◌, ◌%◌, ◌^◌, ◌==◌, List, [], ◌∷◌, Option, Some, None, if◌then◌else◌, slice_index, slice_set, replicate, length, map, ◌⊎◌, IsTrue}
+use Rattle.std.specs.Prelude.{◌≡◌, ℕ, ◌+◌, ◌*◌, ◌%◌, ◌^◌, ◌&&◌, ◌==◌, List, [], ◌∷◌, Option, Some, None, if◌then◌else◌, slice_index, slice_set, replicate, length, map, ◌⊎◌, IsTrue}
 use Rattle.std.specs.List.{list_any}
+use Rattle.std.specs.Option.{is_some}
 use Rattle.om_model.specs.declared.entry.Entry.{Entry}
 use Rattle.om_model.specs.declared.operation.Op.{Op}
 use Rattle.om_model.specs.declared.operation.Op.TheVariants as op
@@ -10,6 +11,7 @@ use Rattle.om_model.specs.declared.operation.Call.{Call}
 use Rattle.om_model.specs.declared.reply.Reply.{Reply}
 use Rattle.om_model.specs.declared.reply.Outcome.{Outcome}
 use Rattle.om_model.specs.declared.reply.Outcome.TheVariants as outcome
+use Rattle.om_model.specs.Pool.Product.{product}
 use Rattle.om_model.specs.Scripts.Calls.{AreCalls, last_reply}
 use Rattle.om_model.specs.Scripts.Outcomes.{outcome_of, is_fault}
 use Rattle.omalloc.specs.declared.command.Command.{Command}
@@ -19,9 +21,21 @@ use Rattle.omalloc.specs.declared.command.Command.TheVariants as command
 abbrev pub at_offset : ℕ → ℕ → ℕ
 at_offset address off = (address + off) % 2 ^ 64
 
+-- a realloc of 0 is a call of malloc
+abbrev pub realloc_op : ℕ → ℕ → ℕ → Op
+realloc_op address size site = if address == 0 then op.Malloc size site else op.Realloc address size site
+
+-- so is a reallocarray of 0 whose product doesn't overflow
+abbrev pub reallocarray_op : ℕ → ℕ → ℕ → ℕ → Op
+reallocarray_op address count size site =
+    if (address == 0) && is_some (product count size) then op.Malloc (count * size) site else op.Reallocarray address count size site
+
 -- the call that a command makes; a free of 0 makes none
 abbrev pub op_of : List ℕ → Command → Option Op
 op_of values (command.Malloc var size site) = Some (op.Malloc size site)
+op_of values (command.Calloc var count size site) = Some (op.Calloc count size site)
+op_of values (command.Realloc var from size site) = Some (realloc_op (slice_index values from) size site)
+op_of values (command.Reallocarray var from count size site) = Some (reallocarray_op (slice_index values from) count size site)
 op_of values (command.Free var) = if slice_index values var == 0 then None else Some (op.Free (slice_index values var))
 op_of values (command.Load var off) = Some (op.Load (at_offset (slice_index values var) off))
 op_of values (command.Store var off byte) = Some (op.Store (at_offset (slice_index values var) off) byte)
@@ -34,6 +48,9 @@ given other = 0
 -- the variables after a command that met no fault
 abbrev pub assigned : List ℕ → Command → Outcome → List ℕ
 assigned values (command.Malloc var size site) o = slice_set values var (given o)
+assigned values (command.Calloc var count size site) o = slice_set values var (given o)
+assigned values (command.Realloc var from size site) o = slice_set values var (given o)
+assigned values (command.Reallocarray var from count size site) o = slice_set values var (given o)
 assigned values other o = values
 
 -- the calls that a script makes, and its outcomes

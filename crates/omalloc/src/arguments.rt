@@ -163,7 +163,7 @@ fn cut_letters(arguments: &[String]) -> Option<(&[u8], &[String])>
 fn is_built(opts: Opts) -> bool
     ensures { result ≡ is_built opts }
 {
-    !(opts.always_move || opts.xmalloc || opts.dump)
+    !(opts.xmalloc || opts.dump)
 }
 
 // The head of a run with these letters, zones and plan; none where they ask for what isn't built.

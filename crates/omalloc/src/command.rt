@@ -2,11 +2,46 @@
 #[derive(Clone, Copy, Debug, PartialEq, Eq)]
 pub enum Command {
     /// The variable becomes the block, or 0 where the answer is null.
-    Malloc { var: u32, size: u64, site: u64 },
+    Malloc {
+        var: u32,
+        size: u64,
+        site: u64,
+    },
+    /// Likewise for so many items of a size.
+    Calloc {
+        var: u32,
+        count: u64,
+        size: u64,
+        site: u64,
+    },
+    /// The variable becomes the block that `from` holds, at its new size, or 0 where the answer is null.
+    Realloc {
+        var: u32,
+        from: u32,
+        size: u64,
+        site: u64,
+    },
+    /// Likewise for so many items of a size.
+    Reallocarray {
+        var: u32,
+        from: u32,
+        count: u64,
+        size: u64,
+        site: u64,
+    },
     /// Frees what the variable holds.
-    Free { var: u32 },
+    Free {
+        var: u32,
+    },
     /// Reads the byte so many bytes behind what the variable holds.
-    Load { var: u32, off: u64 },
+    Load {
+        var: u32,
+        off: u64,
+    },
     /// Writes a byte there.
-    Store { var: u32, off: u64, byte: u8 },
+    Store {
+        var: u32,
+        off: u64,
+        byte: u8,
+    },
 }

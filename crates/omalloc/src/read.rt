@@ -1,15 +1,16 @@
 //! The reading of a script's text, line by line.
 
-ghost use Rattle.std.specs.Prelude.{◌≡◌, ◌+◌, ◌*◌, ◌≤◌, length, Ok, IfOk, IfErr};
+ghost use Rattle.std.specs.Prelude.{◌≡◌, ◌+◌, ◌*◌, ◌<◌, ◌≤◌, length, Ok, Some, None, IfOk, IfErr, MatchOption, if◌then◌else◌};
+ghost use Rattle.std.specs.Option.{option_copied};
 ghost use Rattle.om_io.specs.Source.{input_limit};
-ghost use Rattle.omalloc.specs.AcceptedInput.{text_lines, script_from, script_of, Stops};
-ghost use Rattle.omalloc.specs.Script.{IsScript};
+ghost use Rattle.omalloc.specs.AcceptedInput.{text_lines, fields_of, with_second, second_place, with_line, script_from, script_of, Stops};
+ghost use Rattle.omalloc.specs.Script.{IsScript, most_names};
 ghost use Rattle.omalloc.specs.declared.read.TextStop.TheVariants.{Memory};
 
 mod lines;
 
-use crate::script::Script;
-use lines::{next_line, request_of, title_of};
+use crate::script::{Script, command_of};
+use lines::{Line, line_of, next_line, title_of};
 use std::alloc::{AllocError, AllocFailed, Global};
 
 /// Why a text gives no script.
@@ -38,6 +39,54 @@ impl<T: Drop> From<AllocFailed<T>> for TextStop {
     }
 }
 
+// The place of a second name, which is added where it is new; that of the first where there is no second. None where
+// it is one name too many.
+fn second_place(
+    alloc: Global,
+    script: &mut Script,
+    var: u32,
+    from: Option<&[u8]>,
+) -> Result<Option<u32>, AllocError>
+    requires few { length script.old.names ≤ most_names }
+    ensures { IfOk result (λ place. MatchOption place
+        (most_names < length (with_second script.old.names (option_copied from.entry)))
+        (λ at. (at ≡ second_place script.old.names var (option_copied from.entry))
+        × (script.new ≡ record script.old {
+          names = with_second script.old.names (option_copied from.entry);
+        })
+        × (length script.new.names ≤ most_names))) }
+{
+    match from {
+        None => Ok(Some(var)),
+        Some(name) => script.place(alloc, name),
+    }
+}
+
+// Adds the command of a line, and says whether it is one and found room. Where it isn't, the script may have a name
+// more.
+fn add_line(alloc: Global, script: &mut Script, line: &[u8]) -> Result<bool, AllocError>
+    ensures { IfOk result (λ found. with_line script.old (fields_of line.now)
+        ≡ (if found then Some script.new else None)) }
+{
+    let Some(
+        Line {
+            name,
+            from,
+            request,
+        },
+    ) = line_of(line)
+    else {
+        return Ok(false);
+    };
+    let Some(var) = script.place(alloc, name)? else {
+        return Ok(false);
+    };
+    let Some(from) = second_place(alloc, script, var, from)? else {
+        return Ok(false);
+    };
+    script.push(command_of(var, from, request))
+}
+
 /// Goes on with the script at the line with this number.
 fn go_on(
     alloc: Global,
@@ -57,10 +106,7 @@ fn go_on(
                 Some(_) => Err(TextStop::Refused { line: number + 1 }),
             };
         }
-        let Some((name, request)) = request_of(line) else {
-            return Err(TextStop::Refused { line: number });
-        };
-        if !script.add(alloc, name, request)? {
+        if !add_line(alloc, &mut script, line)? {
             return Err(TextStop::Refused { line: number });
         }
         rest = more;
@@ -111,8 +157,8 @@ mod tests {
         }
     }
 
-    // A script that frees so many different variables.
-    fn frees(alloc: Global, names: u8) -> Result<Vec<u8>, AllocError> {
+    // A script that frees so many different variables, then has these lines, and ends.
+    fn frees(alloc: Global, names: u8, rest: &str) -> Result<Vec<u8>, AllocError> {
         let mut text = b"script a\n".to_vec(alloc)?;
         for i in 0..names {
             text.extend_from_slice(b"free ")?;
@@ -120,6 +166,7 @@ mod tests {
             text.push(b'a' + i / 26)?;
             text.push(b'\n')?;
         }
+        text.extend_from_slice(rest.as_bytes())?;
         text.extend_from_slice(b"end\n")?;
         Ok(text)
     }
@@ -136,7 +183,7 @@ mod tests {
 
     #[test]
     fn refuses_at_the_first_bad_line(rt: HostRuntime) -> Result<(), Fail> {
-        let names = frees(rt.alloc(), 65)?;
+        let names = frees(rt.alloc(), 65, "")?;
         let long = mallocs(rt.alloc(), 200_001)?;
         let cases: [(&[u8], u32); 12] = [
             (b"", 1),
@@ -174,6 +221,7 @@ mod tests {
             "malloc x 1\r",
             "malloc x 1 2",
             "malloc x 0x10",
+            "malloc x 1 @0x1",
             "malloc 1x 1",
             "malloc x ",
             "malloc x",
@@ -190,7 +238,40 @@ mod tests {
             "store x 0",
             "store x 0 1 2",
             "store x  1",
-            "calloc x 1 1",
+            "calloc x 1",
+            "calloc x 1 ",
+            "calloc x",
+            "calloc x 1 1 1",
+            "calloc x 1 1 @0x1",
+            "calloc x 0x1 1",
+            "calloc x 1 0x1",
+            "calloc x 18446744073709551616 1",
+            "calloc x 1 18446744073709551616",
+            "calloc x y 1",
+            "calloc 1 1",
+            "realloc x y",
+            "realloc x y ",
+            "realloc x",
+            "realloc x 1",
+            "realloc x y 1 1",
+            "realloc x y 1 @0x1",
+            "realloc x y 0x1",
+            "realloc x y 18446744073709551616",
+            "realloc x 1y 1",
+            "realloc x  1",
+            "realloc X y 1",
+            "reallocarray x y 1",
+            "reallocarray x y 1 ",
+            "reallocarray x y",
+            "reallocarray x 1 1",
+            "reallocarray x y 1 1 1",
+            "reallocarray x y 1 1 @0x1",
+            "reallocarray x y 0x1 1",
+            "reallocarray x y 1 0x1",
+            "reallocarray x y 18446744073709551616 1",
+            "reallocarray x y 1 18446744073709551616",
+            "reallocarray x Y 1 1",
+            "aligned_alloc x 16 1",
         ];
         for command in commands {
             is_no_command(&rt, rt.alloc(), command)?;
@@ -214,11 +295,37 @@ mod tests {
         Ok(())
     }
 
+    // The names aa to za, ab to zb and ac to lc are 64. Both names of a realloc count, and one that it has twice counts
+    // once.
+    #[test]
+    fn counts_both_names(rt: HostRuntime) -> Result<(), Fail> {
+        let accepted = [
+            (62, "realloc x y 1\n"),
+            (63, "realloc x x 1\n"),
+            (63, "realloc x aa 1\n"),
+            (63, "reallocarray aa x 1 1\n"),
+        ];
+        for (names, line) in accepted {
+            let text = frees(rt.alloc(), names, line)?;
+            is_accepted(&rt, rt.alloc(), &text, b"a", 64, usize::from(names) + 1)?;
+        }
+        let refused = [
+            (63, "realloc x y 1\n"),
+            (64, "realloc x x 1\n"),
+            (64, "reallocarray aa y 1 1\n"),
+        ];
+        for (names, line) in refused {
+            let text = frees(rt.alloc(), names, line)?;
+            is_refused(&rt, rt.alloc(), &text, u32::from(names) + 2);
+        }
+        Ok(())
+    }
+
     // Leading zeros, a name of 16 letters, no command, no line end after `end`; 64 names and 200,000
     // commands.
     #[test]
     fn accepts_up_to_the_edges(rt: HostRuntime) -> Result<(), Fail> {
-        let names = frees(rt.alloc(), 64)?;
+        let names = frees(rt.alloc(), 64, "")?;
         let long = mallocs(rt.alloc(), 200_000)?;
         let zeros = b"script a\nmalloc x 00000000000000000000002048\nend\n";
         let longest_name = b"script a_name_of_16_let\nmalloc y 1\nend\n";
@@ -238,6 +345,10 @@ malloc y 18446744073709551615
 load y 00018446744073709551615
 store x 007 0255
 free x
+calloc z 18446744073709551615 0
+realloc v w 0010
+reallocarray y y 003 18446744073709551615
+reallocarray a w 1 2
 end";
         let script = read(rt.alloc(), text)?;
         let commands = [
@@ -261,6 +372,32 @@ end";
                 byte: 255,
             },
             Command::Free { var: 0 },
+            Command::Calloc {
+                var: 2,
+                count: u64::MAX,
+                size: 0,
+                site: 0,
+            },
+            Command::Realloc {
+                var: 3,
+                from: 4,
+                size: 10,
+                site: 0,
+            },
+            Command::Reallocarray {
+                var: 1,
+                from: 1,
+                count: 3,
+                size: u64::MAX,
+                site: 0,
+            },
+            Command::Reallocarray {
+                var: 5,
+                from: 4,
+                count: 1,
+                size: 2,
+                site: 0,
+            },
         ];
         assert_eq!(rt; script.commands(), commands.as_slice());
         Ok(())

@@ -1,12 +1,12 @@
 //! A script on a pool of its own.
-ghost use Rattle.std.specs.Prelude.{◌≡◌, ◌+◌, ◌<◌, ◌≤◌, [], length, vec_len, IfOk};
+ghost use Rattle.std.specs.Prelude.{◌≡◌, ◌+◌, ◌*◌, ◌<◌, ◌≤◌, ◌==◌, [], length, slice_index, vec_len, Some, None, IfOk, IfSome, if◌then◌else◌};
 ghost use Rattle.std.specs.List.{list_any};
-ghost use Rattle.om_geom.specs.Numbers.{most_zones};
+ghost use Rattle.om_geom.specs.Numbers.{most_zones, zone_pages};
 ghost use Rattle.om_model.specs.Scripts.Outcomes.{missed, outcome_of, is_fault};
 ghost use Rattle.om_pool.specs.PoolView.{rules_by};
-ghost use Rattle.omalloc.specs.ScriptRun.{at_offset, given};
+ghost use Rattle.omalloc.specs.ScriptRun.{at_offset, given, realloc_op, reallocarray_op, op_of, assigned};
 ghost use Rattle.omalloc.specs.Heads.{IsHead};
-ghost use Rattle.omalloc.specs.Run.{who_of, HasMoves, IsCall, IsCommandRun, RanAlone};
+ghost use Rattle.omalloc.specs.Run.{who_of, HasMoves, IsAsked, IsCall, IsCommandRun, RanAlone};
 ghost use Rattle.omalloc.specs.Script.{IsScript, IsCommand, most_commands};
 
 use crate::command::Command;
@@ -89,80 +89,155 @@ fn who_of(number: u32) -> Who
     }
 }
 
-fn call_malloc<R: Wait>(
+// What the variable at this place has.
+fn value_of(values: &[u64], var: u32) -> u64
+    requires { var < length values.now }
+    ensures { result ≡ slice_index values.now var }
+{
+    values[var as usize]
+}
+
+// The call of a realloc: of malloc for address 0.
+pub(crate) fn realloc_op(addr: u64, size: u64, site: u64) -> Op
+    ensures { result ≡ realloc_op addr size site }
+{
+    if addr == 0 {
+        Op::Malloc { size, site }
+    } else {
+        Op::Realloc { addr, size, site }
+    }
+}
+
+// That of a reallocarray: of malloc for address 0, where the product doesn't overflow.
+pub(crate) fn reallocarray_op(addr: u64, count: u64, size: u64, site: u64) -> Op
+    ensures { result ≡ reallocarray_op addr count size site }
+{
+    match count.checked_mul(size) {
+        Some(size) if addr == 0 => Op::Malloc { size, site },
+        _ => Op::Reallocarray {
+            addr,
+            count,
+            size,
+            site,
+        },
+    }
+}
+
+// That of a free: none for address 0.
+pub(crate) fn free_op(addr: u64) -> Option<Op>
+    ensures { result ≡ (if addr == 0 then None else Some (Op.Free addr)) }
+{
+    if addr == 0 {
+        None
+    } else {
+        Some(Op::Free { addr })
+    }
+}
+
+// The call that a command makes.
+fn op_of(values: &[u64], command: Command) -> Option<Op>
+    requires { IsCommand (length values.now) command }
+    ensures op { result ≡ op_of values.now command }
+    ensures asked { IfSome result IsAsked }
+{
+    match command {
+        Command::Malloc { size, site, .. } => Some(Op::Malloc { size, site }),
+        Command::Calloc {
+            count,
+            size,
+            site,
+            ..
+        } => Some(Op::Calloc { count, size, site }),
+        Command::Realloc {
+            from,
+            size,
+            site,
+            ..
+        } => Some(realloc_op(value_of(values, from), size, site)),
+        Command::Reallocarray {
+            from,
+            count,
+            size,
+            site,
+            ..
+        } => Some(reallocarray_op(value_of(values, from), count, size, site)),
+        Command::Free { var } => free_op(value_of(values, var)),
+        Command::Load { var, off } => {
+            let addr = at_offset(value_of(values, var), off);
+            Some(Op::Load { addr })
+        }
+        Command::Store { var, off, byte } => {
+            let addr = at_offset(value_of(values, var), off);
+            Some(Op::Store { addr, byte })
+        }
+    }
+}
+
+// The variables after a command that met no fault.
+fn assign(values: &mut Vec<u64>, command: Command, outcome: Outcome)
+    requires { IsCommand (vec_len values.old) command }
+    ensures { values.new.items ≡ assigned values.old.items command outcome }
+{
+    match command {
+        Command::Malloc { var, .. }
+        | Command::Calloc { var, .. }
+        | Command::Realloc { var, .. }
+        | Command::Reallocarray { var, .. } => values[var as usize] = given(outcome),
+        Command::Free { .. } | Command::Load { .. } | Command::Store { .. } => {}
+    }
+}
+
+// Asks the pool.
+fn ask<R: Wait>(rt: &R, pool: &mut Pool<LoneBroker>, number: u32, op: Op) -> Reply
+    requires room { 1 ≤ pool.old.spare }
+    requires short { length pool.old.journal.items < most_commands }
+    requires zones { pool.old.rules.zones ≤ most_zones }
+    requires held { length pool.old.state.held ≤ zone_pages * pool.old.rules.zones }
+    requires moves { HasMoves pool.old }
+    requires asked { IsAsked op }
+    ensures called { IsCall number op pool.old.journal.items pool.new.journal.items
+        (outcome_of op result) }
+    ensures rules { pool.new.rules ≡ pool.old.rules }
+    ensures entries { length pool.new.journal.items ≤ length pool.old.journal.items + 1 }
+    ensures moves { HasMoves pool.new }
+{
+    let who = who_of(number);
+    match op {
+        Op::Malloc { size, site } => pool.malloc(rt, who, size, site),
+        Op::Calloc { count, size, site } => pool.calloc(rt, who, count, size, site),
+        Op::Realloc { addr, size, site } => pool.realloc(rt, who, Addr(addr), size, site),
+        Op::Reallocarray {
+            addr,
+            count,
+            size,
+            site,
+        } => pool.reallocarray(rt, who, Addr(addr), count, size, site),
+        Op::Free { addr } => pool.free(rt, who, Addr(addr)),
+        Op::Load { addr } => pool.load(who, Addr(addr)),
+        Op::Store { addr, byte } => pool.store(who, Addr(addr), byte),
+    }
+}
+
+// Makes the call of the only script's command with this number on the only pool.
+fn call<R: Wait>(
     rt: &R,
     pool: &mut Pool<LoneBroker>,
     number: u32,
-    size: u64,
-    site: u64,
+    op: Op,
 ) -> Result<Outcome, AllocError>
     requires short { length pool.old.journal.items < most_commands }
     requires zones { pool.old.rules.zones ≤ most_zones }
     requires moves { HasMoves pool.old }
-    ensures called { IfOk result (λ outcome. IsCall number (Op.Malloc size site)
+    requires asked { IsAsked op }
+    ensures called { IfOk result (λ outcome. IsCall number op
         pool.old.journal.items pool.new.journal.items outcome) }
     ensures rules { pool.new.rules ≡ pool.old.rules }
     ensures entries { length pool.new.journal.items ≤ length pool.old.journal.items + 1 }
     ensures moves { HasMoves pool.new }
 {
     pool.reserve()?;
-    let reply = pool.malloc(rt, who_of(number), size, site);
-    Ok(outcome_of(Op::Malloc { size, site }, reply))
-}
-
-fn call_free<R: Wait>(
-    rt: &R,
-    pool: &mut Pool<LoneBroker>,
-    number: u32,
-    addr: u64,
-) -> Result<Outcome, AllocError>
-    requires short { length pool.old.journal.items < most_commands }
-    requires zones { pool.old.rules.zones ≤ most_zones }
-    requires moves { HasMoves pool.old }
-    ensures called { IfOk result (λ outcome. IsCall number (Op.Free addr)
-        pool.old.journal.items pool.new.journal.items outcome) }
-    ensures rules { pool.new.rules ≡ pool.old.rules }
-    ensures entries { length pool.new.journal.items ≤ length pool.old.journal.items + 1 }
-    ensures moves { HasMoves pool.new }
-{
-    pool.reserve()?;
-    let reply = pool.free(rt, who_of(number), Addr(addr));
-    Ok(outcome_of(Op::Free { addr }, reply))
-}
-
-fn call_load(pool: &mut Pool<LoneBroker>, number: u32, addr: u64) -> Result<Outcome, AllocError>
-    requires short { length pool.old.journal.items < most_commands }
-    requires zones { pool.old.rules.zones ≤ most_zones }
-    requires moves { HasMoves pool.old }
-    ensures called { IfOk result (λ outcome. IsCall number (Op.Load addr)
-        pool.old.journal.items pool.new.journal.items outcome) }
-    ensures rules { pool.new.rules ≡ pool.old.rules }
-    ensures entries { length pool.new.journal.items ≤ length pool.old.journal.items + 1 }
-    ensures moves { HasMoves pool.new }
-{
-    pool.reserve()?;
-    let reply = pool.load(who_of(number), Addr(addr));
-    Ok(outcome_of(Op::Load { addr }, reply))
-}
-
-fn call_store(
-    pool: &mut Pool<LoneBroker>,
-    number: u32,
-    addr: u64,
-    byte: u8,
-) -> Result<Outcome, AllocError>
-    requires short { length pool.old.journal.items < most_commands }
-    requires zones { pool.old.rules.zones ≤ most_zones }
-    requires moves { HasMoves pool.old }
-    ensures called { IfOk result (λ outcome. IsCall number (Op.Store addr byte)
-        pool.old.journal.items pool.new.journal.items outcome) }
-    ensures rules { pool.new.rules ≡ pool.old.rules }
-    ensures entries { length pool.new.journal.items ≤ length pool.old.journal.items + 1 }
-    ensures moves { HasMoves pool.new }
-{
-    pool.reserve()?;
-    let reply = pool.store(who_of(number), Addr(addr), byte);
-    Ok(outcome_of(Op::Store { addr, byte }, reply))
+    let reply = ask(rt, pool, number, op);
+    Ok(outcome_of(op, reply))
 }
 
 // One command of the only script, asked of the only pool.
@@ -184,25 +259,12 @@ fn run_command<R: Wait>(
     ensures moves { HasMoves pool.new }
     ensures variables { vec_len values.new ≡ vec_len values.old }
 {
-    match command {
-        Command::Malloc { var, size, site } => {
-            let outcome = call_malloc(rt, pool, number, size, site)?;
-            values[var as usize] = given(outcome);
-            Ok(outcome)
-        }
-        Command::Free { var } => match values[var as usize] {
-            0 => Ok(Outcome::Done),
-            addr => call_free(rt, pool, number, addr),
-        },
-        Command::Load { var, off } => {
-            let addr = at_offset(values[var as usize], off);
-            call_load(pool, number, addr)
-        }
-        Command::Store { var, off, byte } => {
-            let addr = at_offset(values[var as usize], off);
-            call_store(pool, number, addr, byte)
-        }
-    }
+    let Some(op) = op_of(values, command) else {
+        return Ok(Outcome::Done);
+    };
+    let outcome = call(rt, pool, number, op)?;
+    assign(values, command, outcome);
+    Ok(outcome)
 }
 
 // A pool of so many zones, which it has to itself.

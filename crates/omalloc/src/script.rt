@@ -1,6 +1,7 @@
-ghost use Rattle.std.specs.Prelude.{◌≡◌, ◌≤◌, length, map, bytes_eq, Some, None, IfOk, OnErr, false, if◌then◌else◌};
+ghost use Rattle.std.specs.Prelude.{◌≡◌, ◌<◌, ◌≤◌, [], ◌∷◌, ◌++◌, length, map, bytes_eq, true, false, IfOk, MatchOption, OnErr};
 ghost use Rattle.std.specs.List.{position};
-ghost use Rattle.omalloc.specs.AcceptedInput.{titled, with_command, command_of, place_of};
+ghost use Rattle.omalloc.specs.AcceptedInput.{titled, command_of, place_of, with_name};
+ghost use Rattle.omalloc.specs.Script.{most_commands, most_names};
 
 use crate::command::Command;
 use std::alloc::{AllocError, Global};
@@ -17,6 +18,12 @@ const MOST_NAMES: usize = 64;
 pub enum Request {
     /// The size in bytes.
     Malloc(u64),
+    /// How many items, and the size of each.
+    Calloc(u64, u64),
+    /// The new size in bytes.
+    Realloc(u64),
+    /// How many items there shall be, and the size of each.
+    Reallocarray(u64, u64),
     Free,
     /// The offset in bytes.
     Load(u64),
@@ -24,11 +31,32 @@ pub enum Request {
     Store(u64, u8),
 }
 
-fn command_of(var: u32, request: Request) -> Command
-    ensures { result ≡ command_of var request }
+/// The command of a request, by the places of its variables. Only a request that resizes has a second one.
+pub fn command_of(var: u32, from: u32, request: Request) -> Command
+    ensures { result ≡ command_of var from request }
 {
+    let site = 0;
     match request {
-        Request::Malloc(size) => Command::Malloc { var, size, site: 0 },
+        Request::Malloc(size) => Command::Malloc { var, size, site },
+        Request::Calloc(count, size) => Command::Calloc {
+            var,
+            count,
+            size,
+            site,
+        },
+        Request::Realloc(size) => Command::Realloc {
+            var,
+            from,
+            size,
+            site,
+        },
+        Request::Reallocarray(count, size) => Command::Reallocarray {
+            var,
+            from,
+            count,
+            size,
+            site,
+        },
         Request::Free => Command::Free { var },
         Request::Load(off) => Command::Load { var, off },
         Request::Store(off, byte) => Command::Store { var, off, byte },
@@ -84,22 +112,39 @@ impl Script {
         })
     }
 
-    /// Adds a command for the variable of this name, and says whether it found room.
-    pub fn add(&mut self, alloc: Global, name: &[u8], request: Request) -> Result<bool, AllocError>
-        ensures added { IfOk result (λ found. with_command self.old (name.now, request)
-            ≡ (if found then Some self.new else None)) }
-        ensures full { IfOk result (λ found. found ≡ false → self.new ≡ self.old) }
+    /// The place of the variable of this name, which is added where it is new. None where that is one too many; then
+    /// nothing changes.
+    pub fn place(&mut self, alloc: Global, name: &[u8]) -> Result<Option<u32>, AllocError>
+        ensures place { IfOk result (λ place. MatchOption place
+            (most_names < length (with_name self.old.names name.now) × self.new ≡ self.old)
+            (λ at. (at ≡ place_of self.old.names name.now)
+            × (self.new ≡ record self.old { names = with_name self.old.names name.now })
+            × (length self.new.names ≤ most_names))) }
         ensures err { OnErr result (self.new ≡ self.old) }
     {
-        let var = place_of(&self.names, name);
-        if self.commands.len() >= MOST_COMMANDS || var >= MOST_NAMES {
-            return Ok(false);
+        let place = place_of(&self.names, name);
+        if place >= MOST_NAMES {
+            return Ok(None);
         }
-        self.commands.reserve(1)?;
-        if var == self.names.len() {
+        if place == self.names.len() {
             self.names.push(Vec::from_slice(alloc, name)?)?;
         }
-        self.commands.push_reserved(command_of(var as u32, request));
+        Ok(Some(place as u32))
+    }
+
+    /// Adds a command, and says whether it found room.
+    pub fn push(&mut self, command: Command) -> Result<bool, AllocError>
+        ensures added { IfOk result (λ found. found ≡ true
+            → (length self.old.commands < most_commands)
+            × (self.new ≡ record self.old { commands = self.old.commands ++ command ∷ [] })) }
+        ensures full { IfOk result (λ found. found ≡ false
+            → (most_commands ≤ length self.old.commands) × (self.new ≡ self.old)) }
+        ensures err { OnErr result (self.new ≡ self.old) }
+    {
+        if self.commands.len() >= MOST_COMMANDS {
+            return Ok(false);
+        }
+        self.commands.push(command)?;
         Ok(true)
     }
 

@@ -11,6 +11,7 @@ mod limits;
 mod model;
 mod plain;
 mod refused;
+mod resizing;
 mod script_run;
 mod scripts;
 mod steps;

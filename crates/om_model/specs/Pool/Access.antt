@@ -1,6 +1,7 @@
 -- Load and store of one byte. An address outside the arena or on a page that isn't held is a miss. No byte of a guard
--- can be touched, and none of a page that is shut: one of blocks of size 0 and, where unmap is on, a free page. On every other held page a load
--- answers the byte, and a store writes it, be it in a block, between blocks, in a delayed place or on a free page.
+-- can be touched, and none of a page that is shut: one of blocks of size 0 and, where unmap is on, a free page. On
+-- every other held page a load answers the byte, and a store writes it, be it in a block, between blocks, in a delayed
+-- place or on a free page.
 use Rattle.std.specs.Prelude.{ℕ, ◌==◌, if◌then◌else◌, Option, Some, None}
 use Rattle.om_frame.specs.Memory.{byte_at}
 use Rattle.om_geom.specs.Addresses.{page_at}

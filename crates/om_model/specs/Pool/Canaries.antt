@@ -1,6 +1,6 @@
 -- Canaries, where the option is on: bytes behind a small block, at most 32, up to the end of its place. They get the
--- pool's canary byte when the block is allocated, and are looked at before it is freed. A block of size 0 has none, nor
--- has one of whole pages.
+-- pool's canary byte when the block is allocated, and anew where a realloc keeps its place; they are looked at before
+-- it is freed, and before each realloc. A block of size 0 has none, nor has one of whole pages.
 use Rattle.std.specs.Prelude.{ℕ, ◌+◌, ◌-◌, ◌&&◌, nat_lt, min, if◌then◌else◌, List, Option, Some, None}
 use Rattle.std.specs.Option.{option_map}
 use Rattle.om_frame.specs.Memory.{first_other}

@@ -1,10 +1,10 @@
 -- Free of an address, by what stands there. Not held: a miss. A free page, a guard, or a page block elsewhere than at
--- its first byte: bogus. No place begins there: a modified pointer. A free place: already free. So far no word is drawn.
--- For a delayed or a live place one is, and it chooses a slot. A delayed place is a double free under freecheck, or where
--- that slot holds it, and else the free is done; only the word is spent. For a live place a broken canary, and else a
--- write after free, is the fault; only the word is spent. Otherwise the place is put off: it enters the slot and is
--- filled, and what the slot had becomes free. A page block is filled, and its pages become free with the guard. A run
--- that becomes free stays, or is let go where the pool then has more free pages than its cache bound.
+-- its first byte: bogus. No place begins there: a modified pointer. A free place: already free. So far no word is
+-- drawn. For a delayed or a live place one is, and it chooses a slot. A delayed place is a double free under freecheck,
+-- or where that slot holds it, and else the free is done; only the word is spent. For a live place a broken canary, and
+-- else a write after free, is the fault; only the word is spent. Otherwise the place is put off: it enters the slot and
+-- is filled, and what the slot had becomes free. A page block is filled, and its pages become free with the guard. A
+-- run that becomes free stays, or is let go where the pool then has more free pages than its cache bound.
 use Rattle.std.specs.Prelude.{ℕ, ◌%◌, Bool, false, not, ◌||◌, ◌==◌, nat_le, length, filter, Option, Some, None, slice_index_or, slice_set, if◌then◌else◌}
 use Rattle.om_delay.specs.Slots.{slot_count}
 use Rattle.om_delay.specs.declared.check.Changed.{Changed}
@@ -82,8 +82,8 @@ abbrev pub slot_holds : Option Place → ℕ → Bool
 slot_holds None address = false
 slot_holds (Some place) address = place.address == address
 
--- A delayed place is freed again. Without freecheck this is seen only where the drawn slot holds it, and else the free is
--- done; the word is spent, and nothing else changes.
+-- A delayed place is freed again. Without freecheck this is seen only where the drawn slot holds it, and else the free
+-- is done; the word is spent, and nothing else changes.
 unfoldable pub freed_again : Rules → State → ℕ → Step
 freed_again rules state address = record {
   reply = if rules.options.freecheck || slot_holds (slot_of state (drawn_slot rules state)) address then reply.Fault DoubleFree else reply.Done;

@@ -1,9 +1,9 @@
 -- A lawful journal: folded from the opening state, each call has exactly the reply, the words and the
 -- release that its step has, and the zones answered as they may. Phases are numbered 1, 2, .., and change
 -- nothing.
-use Rattle.std.specs.Prelude.{◌≡◌, ℕ, ◌+◌, ◌<◌, ◌≤◌, false, List, [], ◌∷◌, length, map, Option, Some, None, IfSome, IsSomeAnd}
+use Rattle.std.specs.Prelude.{◌≡◌, ℕ, ◌+◌, ◌<◌, ◌≤◌, Bool, false, ◌&&◌, ◌==◌, List, [], ◌∷◌, length, map, if◌then◌else◌, Option, Some, None, IfSome, IsSomeAnd}
 use Rattle.std.specs.List.{flat_map, range_with_len}
-use Rattle.std.specs.Option.{option_map}
+use Rattle.std.specs.Option.{is_some, option_map}
 use Rattle.om_geom.specs.Addresses.{zone_of}
 use Rattle.om_geom.specs.Fit.{searched_zone}
 use Rattle.om_geom.specs.Numbers.{zone_pages}
@@ -13,14 +13,17 @@ use Rattle.om_model.specs.Pool.Runs.{Run, run_of}
 use Rattle.om_model.specs.Pool.State.{State, opening, is_held}
 use Rattle.om_model.specs.Pool.Steps.{Wish, Nothing, Search, At, Answers, Step}
 use Rattle.om_model.specs.Pool.Malloc.{malloc_wish, malloc}
+use Rattle.om_model.specs.Pool.Product.{product}
+use Rattle.om_model.specs.Pool.Calloc.{calloc_wish, calloc}
 use Rattle.om_model.specs.Pool.Free.{free}
+use Rattle.om_model.specs.Pool.Realloc.{realloc_wish, realloc, reallocarray_wish, reallocarray}
 use Rattle.om_model.specs.Pool.Access.{load, store}
 use Rattle.om_model.specs.declared.looks.Look.{Look}
 use Rattle.om_model.specs.declared.entry.Move.{Move}
 use Rattle.om_model.specs.declared.entry.Entry.{Entry}
 use Rattle.om_model.specs.declared.entry.Entry.TheVariants.{Call, Phase}
 use Rattle.om_model.specs.declared.operation.Op.{Op}
-use Rattle.om_model.specs.declared.operation.Op.TheVariants.{Malloc, Free, Load, Store}
+use Rattle.om_model.specs.declared.operation.Op.TheVariants.{Malloc, Calloc, Realloc, Reallocarray, Free, Load, Store}
 use Rattle.om_model.specs.declared.operation.Who.{Who}
 
 -- ---- the step of an operation
@@ -28,15 +31,26 @@ use Rattle.om_model.specs.declared.operation.Who.{Who}
 -- what the operation asks of the zones
 abbrev pub wish_of : Rules → State → Op → Wish
 wish_of rules state (Malloc size site) = malloc_wish rules state size
+wish_of rules state (Calloc count size site) = calloc_wish rules state count size
+wish_of rules state (Realloc address size site) = realloc_wish rules state address size
+wish_of rules state (Reallocarray address count size site) = reallocarray_wish rules state address count size
 wish_of rules state op = Nothing
 
--- what it does, given their answers; none for an operation that has no step
+-- A realloc of address 0, and a reallocarray of address 0 whose product doesn't overflow, are entered as a malloc: they
+-- have no step, and no lawful journal has such an entry.
+abbrev pub step_unless : Bool → Step → Option Step
+step_unless as_malloc step = if as_malloc then None else Some step
+
+-- what the operation does, given the zones' answers; none where it is entered as another
 abbrev pub step_of : Rules → State → Op → Answers → Option Step
 step_of rules state (Malloc size site) answers = Some (malloc rules state size site answers.claim)
+step_of rules state (Calloc count size site) answers = Some (calloc rules state count size site answers.claim)
+step_of rules state (Realloc address size site) answers = step_unless (address == 0) (realloc rules state address size site answers)
+step_of rules state (Reallocarray address count size site) answers =
+    step_unless ((address == 0) && is_some (product count size)) (reallocarray rules state address count size site answers)
 step_of rules state (Free address) answers = Some (free rules state address)
 step_of rules state (Load address) answers = Some (load rules state address)
 step_of rules state (Store address byte) answers = Some (store rules state address byte)
-step_of rules state op answers = None
 
 -- ---- what the zones may answer
 

@@ -1,7 +1,8 @@
 -- Junk: bytes that tell a reader of fresh or freed memory what it is. At level 2 a block is filled when it is
--- allocated: its whole place, that of a block of size 0 too, or all its data pages. When it is freed, a place is filled
--- whole at level 1 and at level 2; of a page block level 1 fills the first 2048 bytes, and level 2 all data pages.
-use Rattle.std.specs.Prelude.{ℕ, ◌*◌, Bool, ◌==◌, ◌||◌, if◌then◌else◌, Option, Some, None}
+-- allocated: its whole place, that of a block of size 0 too, or all its data pages; and of a page block that grows in
+-- place the new data pages. When a block is freed, a place is filled whole at level 1 and at level 2; of a page block
+-- level 1 fills the first 2048 bytes, and level 2 all data pages.
+use Rattle.std.specs.Prelude.{ℕ, ◌+◌, ◌-◌, ◌*◌, Bool, ◌==◌, ◌||◌, if◌then◌else◌, Option, Some, None}
 use Rattle.om_delay.specs.Changes.{freed_byte}
 use Rattle.om_geom.specs.Classes.{data_pages}
 use Rattle.om_geom.specs.Numbers.{page_size}
@@ -33,6 +34,14 @@ data_extent rules block = data_by_class block (size_class rules block.size)
 
 unfoldable pub with_fresh_junk : Rules → Block → State → State
 with_fresh_junk rules block state = if rules.options.junk == 2 then filled_with fresh_byte (data_extent rules block) state else state
+
+-- the data pages behind the old ones
+abbrev pub new_data : Block → ℕ → Extent
+new_data block size =
+    record { first = block.address + page_size * data_pages block.size; len = page_size * (data_pages size - data_pages block.size) }
+
+unfoldable pub with_new_data : Rules → Block → ℕ → State → State
+with_new_data rules block size state = if rules.options.junk == 2 then filled_with fresh_byte (new_data block size) state else state
 
 unfoldable pub with_freed_place : Rules → Place → State → State
 with_freed_place rules place state =

@@ -1,7 +1,7 @@
--- Allocation of a block of so many bytes. For a chunk two words are drawn, the first for the page and the second
--- for the place; for a page block one, for the run. The pool takes a page or a run that it has, or else claims
--- one, with the first word. At junk level 2 its whole place, or all its data pages, are filled; then the canaries behind
--- a chunk are written, and all other bytes stay. What is too large for a zone is null at once.
+-- Allocation of a block of so many bytes. For a chunk two words are drawn, the first for the page and the second for
+-- the place; for a page block one, for the run. The pool takes a page or a run that it has, or else claims one, with
+-- the first word. At junk level 2 its whole place, or all its data pages, are filled; then the canaries behind a chunk
+-- are written, and all other bytes stay. What is too large for a zone is null at once.
 use Rattle.std.specs.Prelude.{ℕ, ◌+◌, Bool, ◌&&◌, nat_lt, [], ◌∷◌, ◌++◌, if◌then◌else◌, Option, Some, None, unwrap_or}
 use Rattle.std.specs.Option.{is_none}
 use Rattle.om_geom.specs.Addresses.{address_of}
@@ -109,7 +109,10 @@ block_or_null rules None = null_or_fault rules NoRun
 abbrev pub block_placed : Rules → ℕ → Placed → Step
 block_placed rules words placed = record { reply = block_or_null rules placed.address; words = words; release = None; next = placed.next }
 
+-- the step, but a null at once where the size is too large
+abbrev pub unless_too_large : Rules → State → ℕ → Step → Step
+unless_too_large rules state size step = if is_too_large rules size then unchanged state (null_or_fault rules TooLarge) else step
+
 abbrev pub malloc : Rules → State → ℕ → ℕ → Option Move → Step
 malloc rules state size site claim =
-    if is_too_large rules size then unchanged state (null_or_fault rules TooLarge)
-    else block_placed rules (words_for rules size) (placing rules state size site claim)
+    unless_too_large rules state size (block_placed rules (words_for rules size) (placing rules state size site claim))

@@ -21,7 +21,7 @@ abbrev pub gives_at : ℕ → Entry → Bool
 gives_at address (Call entry) = is_block_at address entry.reply
 gives_at address other = false
 
--- no block is freed twice: between two frees of an address that were both done, a block was given there
+-- no block is freed by two calls of free: between two frees of an address that were both done, a block was given there
 abbrev pub AreFreedOnce : List Entry → Type 0
 AreFreedOnce entries = (before : List Entry) (first : CallEntry) (between : List Entry) (second : CallEntry) (rest : List Entry) (address : ℕ)
     → entries ≡ before ++ Call first ∷ between ++ Call second ∷ rest → IsFreeDone address first → IsFreeDone address second

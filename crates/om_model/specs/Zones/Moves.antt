@@ -4,19 +4,23 @@ use Rattle.std.specs.List.{flat_map}
 use Rattle.std.specs.Option.{option_and_then, option_map_or, option_to_list}
 use Rattle.om_model.specs.Data.CallEntry.{CallEntry}
 use Rattle.om_model.specs.Pool.Malloc.{pages_for, words_for}
+use Rattle.om_model.specs.Pool.Product.{product}
 use Rattle.om_model.specs.Pool.Rules.{Rules}
 use Rattle.om_model.specs.declared.entry.ZoneMove.{ZoneMove}
 use Rattle.om_model.specs.declared.entry.Entry.{Entry}
 use Rattle.om_model.specs.declared.entry.Entry.TheVariants.{Call, Phase}
 use Rattle.om_model.specs.declared.operation.Op.{Op}
-use Rattle.om_model.specs.declared.operation.Op.TheVariants.{Malloc}
+use Rattle.om_model.specs.declared.operation.Op.TheVariants.{Malloc, Calloc, Realloc, Reallocarray}
 
--- the size of the block that an operation asks for
+-- the size of the block that an operation asks for; none where a product overflows
 abbrev pub size_asked : Op → Option ℕ
 size_asked (Malloc size site) = Some size
+size_asked (Calloc count size site) = product count size
+size_asked (Realloc address size site) = Some size
+size_asked (Reallocarray address count size site) = product count size
 size_asked op = None
 
--- the pages that a call seeks
+-- how many pages a call searches for
 abbrev pub pages_sought : Rules → Op → ℕ
 pages_sought rules op = option_map_or (pages_for rules) (size_asked op) 0
 

@@ -23,9 +23,9 @@ use std::marker::Model;
 
 /// A state after pages became free, and the run that was let go.
 #[derive(Drop)]
-struct Freed {
-    release: Option<Run>,
-    next: State,
+pub(super) struct Freed {
+    pub(super) release: Option<Run>,
+    pub(super) next: State,
 }
 
 impl Model for Freed {
@@ -47,9 +47,14 @@ fn is_surplus(head: &Head, pool: u32, state: &State) -> Result<bool, AllocError>
     Ok(pages.len() > head.opts.cache as usize)
 }
 
-// A run that became free is let go where it is surplus.
+/// A run that became free is let go where it is surplus.
 #[tactic(auto, unfolding(crate::specs::Pool::Free::kept_or_let_go))]
-fn kept_or_let_go(head: &Head, pool: u32, state: State, run: Run) -> Result<Freed, AllocError>
+pub(super) fn kept_or_let_go(
+    head: &Head,
+    pool: u32,
+    state: State,
+    run: Run,
+) -> Result<Freed, AllocError>
     ensures { IfOk result (λ left. left ≡
         kept_or_let_go (rules_of head.now pool) state (run_in run)) }
 {
@@ -83,7 +88,8 @@ fn evicted(head: &Head, pool: u32, state: State, slot: Option<Place>) -> Result<
     })
 }
 
-fn without_block(state: &State, address: u64) -> Result<State, AllocError>
+/// The block at the address is live no longer.
+pub(super) fn without_block(state: &State, address: u64) -> Result<State, AllocError>
     ensures { IfOk result (λ next. next ≡ without_block state.now address) }
 {
     let mut next = state.copy()?;
@@ -96,11 +102,12 @@ fn without_block(state: &State, address: u64) -> Result<State, AllocError>
     Ok(next)
 }
 
-// The slot that the next word chooses.
-fn drawn_slot(head: &Head, pool: u32, state: &State) -> usize
+/// The slot that the next word chooses.
+pub(super) fn drawn_slot(head: &Head, pool: u32, state: &State) -> usize
     requires words { HasWords head.now.plan }
     requires few { state.now.drawn < 2 ^ 63 }
-    ensures { result ≡ drawn_slot (rules_of head.now pool) state.now }
+    ensures value { result ≡ drawn_slot (rules_of head.now pool) state.now }
+    ensures within { result < slot_count }
 {
     word_at(head, pool, state.drawn) as usize % SLOT_COUNT
 }
@@ -136,8 +143,8 @@ fn slot_of(state: &State, slot: usize) -> Option<Place>
     state.slots[slot]
 }
 
-// A place is put off to the slot, and what this had is evicted.
-fn moved_to_slot(
+/// A place is put off to the slot, and what this had is evicted.
+pub(super) fn moved_to_slot(
     head: &Head,
     pool: u32,
     state: &State,
@@ -200,8 +207,8 @@ fn misuse(head: &Head, pool: u32, state: &State, block: Block) -> Result<Option<
     Ok(first_misuse(broken, changed))
 }
 
-// It is told; nothing changes but that the slot's word is drawn.
-fn told(state: &State, fault: Fault) -> Result<Step, AllocError>
+/// It is told; nothing changes but that the slot's word is drawn.
+pub(super) fn told(state: &State, fault: Fault) -> Result<Step, AllocError>
     requires { state.now.drawn < 2 ^ 63 }
     ensures { IfOk result (λ step. step ≡ told state.now fault) }
 {
@@ -266,8 +273,8 @@ fn freed_again(head: &Head, pool: u32, state: &State, address: u64) -> Result<St
     })
 }
 
-// A page block leaves the live blocks, and its bytes are filled: its pages with the guard are a run that becomes free.
-fn without_page_block(
+/// A page block leaves the live blocks, and its bytes are filled: its pages with the guard are a run that becomes free.
+pub(super) fn without_page_block(
     head: &Head,
     pool: u32,
     state: &State,
@@ -285,7 +292,8 @@ fn without_page_block(
     kept_or_let_go(head, pool, next, run)
 }
 
-fn free_at(
+/// The free of an address, by what stands there.
+pub(super) fn free_at(
     head: &Head,
     pool: u32,
     state: &State,

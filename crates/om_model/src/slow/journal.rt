@@ -1,197 +1,28 @@
 //! Lawful journals: each call has the reply, the words and the release of its step, and the zones answered as
 //! they may.
-ghost use Rattle.std.specs.Prelude.{◌≡◌, ℕ, ◌+◌, ◌-◌, ◌^◌, ◌<◌, ◌≤◌, ◌↔◌, false, [], length, map, None, IsSome, IsTrue, IfOk, OnOk, IfSome, ◌++◌};
+ghost use Rattle.std.specs.Prelude.{◌≡◌, ◌-◌, ◌^◌, ◌<◌, ◌≤◌, ◌==◌, ◌&&◌, ◌↔◌, IsSome, IsTrue, IfOk, OnOk, IfSome, ◌++◌};
 ghost use Rattle.std.specs.List.{range_with_len};
-ghost use Rattle.std.specs.Option.{option_map};
-ghost use Rattle.om_geom.specs.Fit.{searched_zone};
-ghost use Rattle.om_geom.specs.Numbers.{zone_pages, most_zones};
+ghost use Rattle.std.specs.Option.{is_some, option_map};
+ghost use Rattle.om_geom.specs.Numbers.{most_zones};
 ghost use Rattle.om_words.specs.PlannedWords.{HasWords};
 ghost use Rattle.om_model.specs.Output.Head.{rules_of};
-ghost use Rattle.om_model.specs.Pool.Runs.{run_of};
-ghost use Rattle.om_model.specs.Pool.State.{opening, is_held};
-ghost use Rattle.om_model.specs.Pool.Journal.{wish_of, step_of, NamesSearched, IsFresh, IsFound, EndsSearch, MayAnswer, answers_of, GivesUp, Agrees, IsLawfulCall, IsLawfulEntry, after, state_from, IsLawfulFrom, phases_in, phase_numbers, IsLawful};
-ghost use Rattle.om_model.specs.Slow.{run_in, wish_in, IsSmallClaim};
+ghost use Rattle.om_model.specs.Pool.Product.{product};
+ghost use Rattle.om_model.specs.Pool.Realloc.{realloc, reallocarray};
+ghost use Rattle.om_model.specs.Pool.State.{opening};
+ghost use Rattle.om_model.specs.Pool.Journal.{wish_of, step_unless, step_of, GivesUp, Agrees, IsLawfulCall, IsLawfulEntry, after, state_from, IsLawfulFrom, phases_in, phase_numbers, IsLawful};
+ghost use Rattle.om_model.specs.Slow.{run_in, told_in, wish_in, IsSmallClaim};
 ghost use Rattle.om_model.specs.declared.entry.Entry.TheVariants.{Call};
 
+use super::answers::{are_same, is_inside, is_run, may_answer};
+use super::product::product;
 use super::rules::words_from;
-use super::state::{State, is_held};
-use super::steps::{Run, Step, Wish};
+use super::state::State;
+use super::steps::{Answers, Run, Step, Wish};
 use crate::content::Head;
 use crate::entry::{CallEntry, Entry, Move};
 use crate::journal::Journal;
-use crate::looks::LookList;
 use crate::operation::Op;
-use om_geom::ZONE_PAGES;
 use std::alloc::{AllocError, Global};
-
-// The zone to which a search by the word comes after so many.
-fn searched_zone(zones: u32, word: u32, i: u32) -> u32
-    requires { 1 ≤ zones }
-    ensures { result ≡ searched_zone zones word i }
-{
-    ((u64::from(word / ZONE_PAGES) + u64::from(i)) % u64::from(zones)) as u32
-}
-
-fn searched_zones(alloc: Global, zones: u32, word: u32, count: u32) -> Result<Vec<u32>, AllocError>
-    requires { 1 ≤ zones }
-    ensures { IfOk result (λ searched. searched.items ≡
-        map (searched_zone zones word) (range_with_len 0 count)) }
-{
-    (0..count)
-        .map(|i| searched_zone(zones, word, i))
-        .collect(alloc)
-}
-
-fn named_zones(alloc: Global, looks: &LookList) -> Result<Vec<u32>, AllocError>
-    ensures { IfOk result (λ named. named.items ≡ map (λ look. look.zone) looks.now.items) }
-{
-    looks.iter().map(|look| look.zone).collect(alloc)
-}
-
-fn are_same(some: &[u32], others: &[u32]) -> bool
-    ensures { IsTrue result ↔ (some.now ≡ others.now) }
-{
-    some == others
-}
-
-fn names_searched(
-    alloc: Global,
-    zones: u32,
-    word: u32,
-    looks: &LookList,
-) -> Result<bool, AllocError>
-    requires { 1 ≤ zones }
-    ensures { IfOk result (λ named. IsTrue named ↔ NamesSearched zones word looks.now.items) }
-{
-    let named = named_zones(alloc, looks)?;
-    let searched = searched_zones(alloc, zones, word, looks.len())?;
-    Ok(are_same(&named, &searched))
-}
-
-// Whether the pool holds none of so many pages.
-fn is_new(state: &State, first: u64, count: u32) -> bool
-    requires { first < 2 ^ 63 }
-    ensures { IsTrue result ↔ ((page : ℕ) → first ≤ page → page < first + count
-        → is_held state.now.held page ≡ false) }
-{
-    for i in 0..count {
-        if is_held(&state.held, first + u64::from(i)) {
-            return false;
-        }
-    }
-    true
-}
-
-// Whether all of its pages are of its zone.
-fn is_inside(made: Move) -> bool
-    ensures { IsTrue result ↔ (made.first + made.count ≤ zone_pages) }
-{
-    u64::from(made.first) + u64::from(made.count) <= u64::from(ZONE_PAGES)
-}
-
-fn first_page(made: Move) -> u64
-    ensures { result ≡ (run_of made).first }
-{
-    u64::from(ZONE_PAGES) * u64::from(made.zone) + u64::from(made.first)
-}
-
-// The claim lies in its zone, on pages that the pool doesn't hold.
-fn is_fresh(state: &State, found: Move) -> bool
-    ensures { IsTrue result ↔ IsFresh state.now found }
-{
-    is_inside(found) && is_new(state, first_page(found), found.count)
-}
-
-fn is_found(
-    head: &Head,
-    pool: u32,
-    state: &State,
-    count: u64,
-    word: u32,
-    passed: u32,
-    found: Move,
-) -> bool
-    requires { 1 ≤ head.now.zones }
-    ensures { IsTrue result ↔
-        IsFound (rules_of head.now pool) state.now count word passed found }
-{
-    passed < head.zones
-        && found.zone == searched_zone(head.zones, word, passed)
-        && u64::from(found.count) == count
-        && is_fresh(state, found)
-}
-
-// Where the search ends: at the claim, or after every zone.
-fn ends_search(
-    head: &Head,
-    pool: u32,
-    state: &State,
-    count: u64,
-    word: u32,
-    passed: u32,
-    claim: Option<Move>,
-) -> bool
-    requires { 1 ≤ head.now.zones }
-    ensures { IsTrue result ↔
-        EndsSearch (rules_of head.now pool) state.now count word passed claim }
-{
-    match claim {
-        Some(found) => is_found(head, pool, state, count, word, passed, found),
-        None => passed == head.zones,
-    }
-}
-
-fn answers_nothing(entry: &CallEntry) -> bool
-    ensures { IsTrue result ↔
-        ((entry.now.claim ≡ None) × (entry.now.looks ≡ []) × (entry.now.taken ≡ None)) }
-{
-    entry.claim.is_none() && entry.looks.is_empty() && entry.taken.is_none()
-}
-
-fn answers_search(
-    head: &Head,
-    pool: u32,
-    state: &State,
-    count: u64,
-    word: u32,
-    entry: &CallEntry,
-) -> Result<bool, AllocError>
-    requires { 1 ≤ head.now.zones }
-    ensures { IfOk result (λ may. IsTrue may ↔
-        (NamesSearched head.now.zones word entry.now.looks
-        × EndsSearch (rules_of head.now pool) state.now count word (length entry.now.looks)
-        entry.now.claim
-        × (entry.now.taken ≡ None))) }
-{
-    let named = names_searched(state.alloc, head.zones, word, &entry.looks)?;
-    let passed = entry.looks.len();
-    let ends = ends_search(head, pool, state, count, word, passed, entry.claim);
-    Ok(named && ends && entry.taken.is_none())
-}
-
-// Whether the zones may answer so.
-fn may_answer(
-    head: &Head,
-    pool: u32,
-    state: &State,
-    wish: Wish,
-    entry: &CallEntry,
-) -> Result<bool, AllocError>
-    requires { 1 ≤ head.now.zones }
-    ensures { IfOk result (λ may. IsTrue may ↔
-        MayAnswer (rules_of head.now pool) state.now (wish_in wish) (answers_of entry.now)) }
-{
-    match wish {
-        Wish::Nothing => Ok(answers_nothing(entry)),
-        Wish::Search(count, word) => answers_search(head, pool, state, count, word, entry),
-    }
-}
-
-fn is_run(found: Move, run: Run) -> bool
-    ensures { IsTrue result ↔ (run_of found ≡ run_in run) }
-{
-    first_page(found) == run.first && u64::from(found.count) == run.count
-}
 
 // Whether the move gives up the run, inside its zone.
 fn gives_up(run: Option<Run>, release: Option<Move>) -> bool
@@ -229,36 +60,106 @@ impl State {
     /// What an operation asks of the zones.
     pub fn wish_of(&self, head: &Head, pool: u32, op: Op) -> Result<Wish, AllocError>
         requires words { HasWords head.now.plan }
-        requires few { self.now.drawn < 2 ^ 63 }
+        requires few { self.now.drawn < 2 ^ 63 - 1 }
         ensures { IfOk result (λ wish. wish_in wish ≡
             wish_of (rules_of head.now pool) self.now op) }
     {
         match op {
             Op::Malloc { size, .. } => self.malloc_wish(head, pool, size),
-            _ => Ok(Wish::Nothing),
+            Op::Calloc { count, size, .. } => self.calloc_wish(head, pool, count, size),
+            Op::Realloc { addr, size, .. } => self.realloc_wish(head, pool, addr, size),
+            Op::Reallocarray {
+                addr,
+                count,
+                size,
+                ..
+            } => self.reallocarray_wish(head, pool, addr, count, size),
+            Op::Free { .. } | Op::Load { .. } | Op::Store { .. } => Ok(Wish::Nothing),
         }
     }
 
-    /// What it does, given the claim that the zones answered; none for an operation that has no step.
+    // A realloc of address 0 is entered as a malloc.
+    fn realloc_step(
+        &self,
+        head: &Head,
+        pool: u32,
+        address: u64,
+        size: u64,
+        site: u64,
+        answers: Answers,
+    ) -> Result<Option<Step>, AllocError>
+        requires words { HasWords head.now.plan }
+        requires few { self.now.drawn < 2 ^ 63 - 2 }
+        requires few_zones { head.now.zones ≤ most_zones }
+        requires claim { IsSmallClaim answers.claim }
+        ensures { IfOk result (λ step. step ≡ step_unless (address == 0)
+            (realloc (rules_of head.now pool) self.now address size site (told_in answers))) }
+    {
+        if address == 0 {
+            return Ok(None);
+        }
+        Ok(Some(self.realloc(head, pool, address, size, site, answers)?))
+    }
+
+    // So is a reallocarray whose product has a number of 64 bits.
+    fn reallocarray_step(
+        &self,
+        head: &Head,
+        pool: u32,
+        address: u64,
+        count: u64,
+        size: u64,
+        site: u64,
+        answers: Answers,
+    ) -> Result<Option<Step>, AllocError>
+        requires words { HasWords head.now.plan }
+        requires few { self.now.drawn < 2 ^ 63 - 2 }
+        requires few_zones { head.now.zones ≤ most_zones }
+        requires claim { IsSmallClaim answers.claim }
+        ensures { IfOk result (λ step. step ≡
+            step_unless ((address == 0) && is_some (product count size))
+            (reallocarray (rules_of head.now pool) self.now address count size site
+            (told_in answers))) }
+    {
+        if address == 0 && product(count, size).is_some() {
+            return Ok(None);
+        }
+        Ok(Some(self.reallocarray(head, pool, address, count, size, site, answers)?))
+    }
+
+    /// What it does, given what the zones answered; none for an operation that is entered as another.
     pub fn step(
         &self,
         head: &Head,
         pool: u32,
         op: Op,
-        claim: Option<Move>,
+        answers: Answers,
     ) -> Result<Option<Step>, AllocError>
         requires words { HasWords head.now.plan }
-        requires few { self.now.drawn < 2 ^ 63 - 1 }
-        requires claim { IsSmallClaim claim }
-        ensures { IfOk result (λ step. step ≡ step_of (rules_of head.now pool) self.now op
-            (record { claim = claim; looks = []; taken = None })) }
+        requires few { self.now.drawn < 2 ^ 63 - 2 }
+        requires few_zones { head.now.zones ≤ most_zones }
+        requires claim { IsSmallClaim answers.claim }
+        ensures { IfOk result (λ step. step ≡
+            step_of (rules_of head.now pool) self.now op (told_in answers)) }
     {
+        let claim = answers.claim;
         match op {
             Op::Malloc { size, site } => Ok(Some(self.malloc(head, pool, size, site, claim)?)),
+            Op::Calloc { count, size, site } => {
+                Ok(Some(self.calloc(head, pool, count, size, site, claim)?))
+            }
+            Op::Realloc { addr, size, site } => {
+                self.realloc_step(head, pool, addr, size, site, answers)
+            }
+            Op::Reallocarray {
+                addr,
+                count,
+                size,
+                site,
+            } => self.reallocarray_step(head, pool, addr, count, size, site, answers),
             Op::Free { addr } => Ok(Some(self.free(head, pool, addr)?)),
             Op::Load { addr } => Ok(Some(self.load(head, pool, addr)?)),
             Op::Store { addr, byte } => Ok(Some(self.store(head, pool, addr, byte)?)),
-            _ => Ok(None),
         }
     }
 
@@ -299,7 +200,11 @@ impl State {
         if !may {
             return Ok(None);
         }
-        let Some(step) = self.step(head, pool, entry.op, entry.claim)? else {
+        let answers = Answers {
+            claim: entry.claim,
+            taken: entry.taken,
+        };
+        let Some(step) = self.step(head, pool, entry.op, answers)? else {
             return Ok(None);
         };
         let is = agrees(head, pool, self, entry, &step)?;

@@ -1,7 +1,7 @@
-//! What a block's bytes are filled with when it is allocated and when it is freed.
+//! What a block's bytes are filled with when it is allocated, when it grows in place, and when it is freed.
 ghost use Rattle.std.specs.Prelude.{◌≡◌, ◌^◌, ◌<◌};
 ghost use Rattle.om_model.specs.Output.Head.{rules_of};
-ghost use Rattle.om_model.specs.Pool.Junk.{data_extent, fills_freed, freed_len, with_fresh_junk, with_freed_place, with_freed_pages};
+ghost use Rattle.om_model.specs.Pool.Junk.{data_extent, fills_freed, freed_len, with_fresh_junk, with_new_data, with_freed_place, with_freed_pages};
 ghost use Rattle.om_model.specs.Pool.InUse.{data_of};
 ghost use Rattle.om_model.specs.Pool.State.{filled_with};
 
@@ -13,7 +13,8 @@ use crate::content::Head;
 use om_delay::FREED_BYTE;
 use om_geom::{PAGE_SIZE, pages_of};
 
-const FRESH: u8 = 0xdb;
+/// What fresh memory is filled with.
+pub(super) const FRESH: u8 = 0xdb;
 
 // So many bytes of a freed page block are filled at level 1.
 const FREED_FRONT: u128 = 2048;
@@ -48,6 +49,27 @@ pub(super) fn with_fresh_junk(head: &Head, pool: u32, block: Block, state: State
     } else {
         state
     }
+}
+
+/// The state once the data pages behind the old ones are filled.
+#[tactic(auto, unfolding(crate::specs::Pool::Junk::with_new_data))]
+pub(super) fn with_new_data(
+    head: &Head,
+    pool: u32,
+    block: Block,
+    size: u64,
+    mut state: State,
+) -> State
+    ensures { result ≡ with_new_data (rules_of head.now pool) block size state }
+{
+    if head.opts.junk == 2 {
+        let old = pages_of(block.size);
+        let more = pages_of(size).saturating_sub(old);
+        let first = u128::from(block.address) + u128::from(PAGE_SIZE) * u128::from(old);
+        let len = u128::from(PAGE_SIZE) * u128::from(more);
+        state.memory.fill(first, len, FRESH);
+    }
+    state
 }
 
 /// Whether a freed place is filled.

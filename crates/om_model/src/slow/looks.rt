@@ -1,17 +1,26 @@
-//! Looks: what a claim says of the zones that it passed over, and the versions that a journal names.
-ghost use Rattle.std.specs.Prelude.{◌≡◌, ◌↔◌, IsTrue, IsSomeAnd, IfOk, OnOk, ◌++◌, map};
-ghost use Rattle.std.specs.List.{AllByRecursion, flat_map};
-ghost use Rattle.std.specs.Option.{option_to_list};
-ghost use Rattle.om_model.specs.Zones.Looks.{IsTrueLook, HasTrueLooks, named_by_look, named_by_move, named_in, ComesAfter, Rises, AreLooks};
+//! Looks: what a claim says of the zones that it passed over or of a page that it found held, and the versions that a
+//! journal names.
+ghost use Rattle.std.specs.Prelude.{◌≡◌, ◌↔◌, ◌-◌, ◌≤◌, IsTrue, IsSomeAnd, IfOk, OnOk, ◌++◌, map};
+ghost use Rattle.std.specs.List.{AllByRecursion, flat_map, list_any, range_with_len};
+ghost use Rattle.std.specs.Option.{is_some, option_to_list};
+ghost use Rattle.om_geom.specs.Addresses.{bit_of};
+ghost use Rattle.om_geom.specs.Numbers.{most_zones};
+ghost use Rattle.om_words.specs.PlannedWords.{HasWords};
+ghost use Rattle.om_model.specs.Zones.Looks.{IsTrueLook, HasTrueLooks, IsTrueTaken, named_by_look, named_by_move, named_in, ComesAfter, Rises, AreLooks};
+ghost use Rattle.om_model.specs.Zones.Order.{owner};
 ghost use Rattle.om_model.specs.Output.Head.{rules_of};
+ghost use Rattle.om_model.specs.Pool.Journal.{IsLawfulFrom};
+ghost use Rattle.om_model.specs.Pool.State.{opening};
 ghost use Rattle.om_model.specs.declared.entry.Entry.TheVariants.{Call};
 
 use super::moves::{pages_sought, search_word};
-use super::order::{fit_at, last_version};
+use super::order::{fit_at, last_version, owner};
+use super::taken::{TakenLook, taken_of};
 use crate::content::Head;
 use crate::entry::{CallEntry, Entry, Move, ZoneMove};
 use crate::journal::Journal;
 use crate::looks::{Look, Named};
+use om_geom::ZONE_PAGES;
 use std::alloc::{AllocError, Global};
 
 /// Whether the zone has had the version of the look, and so many pages didn't fit there then, searched
@@ -58,6 +67,43 @@ fn are_true(head: &Head, pool: u32, moves: &[ZoneMove], journal: &Journal) -> bo
         }
     }
     true
+}
+
+fn was_owned(moves: &[ZoneMove], zone: u32, version: u64, page: u128) -> bool
+    ensures { result ≡ is_some (owner moves.now zone version (bit_of page)) }
+{
+    let bit = (page % u128::from(ZONE_PAGES)) as u64;
+    owner(moves, zone, version, bit).is_some()
+}
+
+// Whether some of these pages of the zone had an owner after so many moves.
+fn was_some_owned(moves: &[ZoneMove], zone: u32, version: u64, first: u128, end: u128) -> bool
+    ensures { result ≡ list_any (λ page. is_some (owner moves.now zone version (bit_of page)))
+        (range_with_len first (end - first)) }
+{
+    (first..end).any(|page| was_owned(moves, zone, version, page))
+}
+
+// Whether the zone has had the version of the look, and some page of the run was held then.
+fn is_true_taken(moves: &[ZoneMove], taken: &TakenLook) -> bool
+    ensures { IsTrue result ↔ IsTrueTaken moves.now taken.now.run taken.now.look }
+{
+    let look = taken.look;
+    let version = u64::from(look.version);
+    let first = u128::from(taken.run.first);
+    let end = first + u128::from(taken.run.count);
+    version <= last_version(moves, look.zone)
+        && was_some_owned(moves, look.zone, version, first, end)
+}
+
+fn are_true_taken(moves: &[ZoneMove], taken: &[TakenLook]) -> bool
+    ensures { IsTrue result ↔
+        AllByRecursion (λ found. IsTrueTaken moves.now found.run found.look) taken.now }
+{
+    let Some((found, others)) = taken.split_first() else {
+        return true;
+    };
+    is_true_taken(moves, found) && are_true_taken(moves, others)
 }
 
 fn named_by_look(look: Look) -> Named
@@ -174,7 +220,8 @@ fn rises(named: &[Named]) -> bool
 }
 
 /// Whether the looks of the pool's journal are true and the versions that it names rise, where the moves are
-/// those of all journals.
+/// those of all journals. Which run a claim was made at stands in the pool's states, which lawful calls alone
+/// tell: so the calls must be lawful too.
 pub fn are_looks(
     alloc: Global,
     head: &Head,
@@ -182,9 +229,16 @@ pub fn are_looks(
     moves: &[ZoneMove],
     journal: &Journal,
 ) -> Result<bool, AllocError>
+    requires words { HasWords head.now.plan }
+    requires some_zone { 1 ≤ head.now.zones }
+    requires few_zones { head.now.zones ≤ most_zones }
     ensures { IfOk result (λ are. IsTrue are ↔
-        AreLooks (rules_of head.now pool) moves.now journal.now.items) }
+        (IsLawfulFrom (rules_of head.now pool) (opening (rules_of head.now pool)) journal.now.items
+        × AreLooks (rules_of head.now pool) moves.now journal.now.items)) }
 {
+    let Some(taken) = taken_of(alloc, head, pool, journal)? else {
+        return Ok(false);
+    };
     let named = named_in(alloc, journal)?;
-    Ok(are_true(head, pool, moves, journal) && rises(&named))
+    Ok(are_true(head, pool, moves, journal) && are_true_taken(moves, &taken) && rises(&named))
 }

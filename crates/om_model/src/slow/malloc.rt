@@ -3,8 +3,10 @@ ghost use Rattle.std.specs.Prelude.{◌≡◌, ◌+◌, ◌-◌, ◌^◌, ◌<�
 ghost use Rattle.om_geom.specs.Classes.{is_class};
 ghost use Rattle.om_words.specs.PlannedWords.{HasWords};
 ghost use Rattle.om_model.specs.Output.Head.{rules_of};
-ghost use Rattle.om_model.specs.Pool.Malloc.{pages_for, words_for, is_too_large, page_by_class, page_for, placing_wish, address_on, placed_on, placed_by_claim, placing, malloc_wish, block_or_null, malloc};
-ghost use Rattle.om_model.specs.Slow.{wish_in, IsSmallClaim};
+ghost use Rattle.om_model.specs.Pool.Malloc.{pages_for, words_for, is_too_large, page_by_class, page_for, placing_wish, address_on, placed_on, placed_by_claim, placing, malloc_wish, block_or_null, block_placed, malloc};
+ghost use Rattle.om_model.specs.Pool.Steps.{unchanged, null_or_fault};
+ghost use Rattle.om_model.specs.Slow.{searching, wish_in, IsSmallClaim};
+ghost use Rattle.om_model.specs.declared.reply.Why.TheVariants.{TooLarge};
 
 use super::canaries::with_canaries;
 use super::in_use::{address_of, uses};
@@ -12,7 +14,7 @@ use super::junk::with_fresh_junk;
 use super::picks::{own_page, own_run, picked_place, place_address};
 use super::rules::{block_pages, size_class, word_at};
 use super::state::State;
-use super::steps::{Step, Wish, null_or_fault, unchanged};
+use super::steps::{Search, Step, Wish, null_or_fault, searching, unchanged};
 use crate::block::Block;
 use crate::content::Head;
 use crate::entry::Move;
@@ -80,25 +82,39 @@ fn page_for(head: &Head, pool: u32, state: &State, size: u64) -> Result<Option<u
     page_by_class(head, pool, state, size, size_class(head, size))
 }
 
-// Zones are searched only where the pool has none.
-fn placing_wish(head: &Head, pool: u32, state: &State, size: u64) -> Result<Wish, AllocError>
+/// The null, or the fault in its place, of what no zone has room for.
+pub(super) fn too_large(head: &Head, pool: u32, state: &State) -> Result<Step, AllocError>
+    ensures { IfOk result (λ step. step ≡
+        unchanged state.now (null_or_fault (rules_of head.now pool) TooLarge)) }
+{
+    unchanged(state, null_or_fault(head, pool, Why::TooLarge))
+}
+
+/// The search by which a block is placed. Zones are searched only where the pool has no page or run for it.
+pub(super) fn placing_search(
+    head: &Head,
+    pool: u32,
+    state: &State,
+    size: u64,
+) -> Result<Option<Search>, AllocError>
     requires words { HasWords head.now.plan }
     requires few { state.now.drawn < 2 ^ 63 }
-    ensures { IfOk result (λ wish. wish_in wish ≡
+    ensures { IfOk result (λ search. searching search ≡
         placing_wish (rules_of head.now pool) state.now size) }
 {
     let word = word_at(head, pool, state.drawn);
+    let count = pages_for(head, pool, size);
     match page_for(head, pool, state, size)? {
-        Some(_) => Ok(Wish::Nothing),
-        None => Ok(Wish::Search(pages_for(head, pool, size), word)),
+        Some(_) => Ok(None),
+        None => Ok(Some(Search { count, word })),
     }
 }
 
 /// Where a block was placed, or that no run was found for it, and the state after it.
 #[derive(Drop)]
-struct Placed {
-    address: Option<u64>,
-    next: State,
+pub(super) struct Placed {
+    pub(super) address: Option<u64>,
+    pub(super) next: State,
 }
 
 impl Model for Placed {
@@ -185,8 +201,8 @@ fn placed_by_claim(
     placed_on(head, pool, next, first, word, size, site)
 }
 
-// The second word is that of a chunk's place.
-fn placing(
+/// The placing of a block. The second word is that of a chunk's place.
+pub(super) fn placing(
     head: &Head,
     pool: u32,
     state: &State,
@@ -219,6 +235,18 @@ fn block_or_null(head: &Head, pool: u32, address: Option<u64>) -> Reply
     }
 }
 
+/// The step of a block that was placed by so many words, or for which no run was found.
+pub(super) fn block_placed(head: &Head, pool: u32, words: u32, placed: Placed) -> Step
+    ensures { result ≡ block_placed (rules_of head.now pool) words placed }
+{
+    Step {
+        reply: block_or_null(head, pool, placed.address),
+        words,
+        release: None,
+        next: placed.next,
+    }
+}
+
 impl State {
     /// What an allocation asks of the zones.
     pub fn malloc_wish(&self, head: &Head, pool: u32, size: u64) -> Result<Wish, AllocError>
@@ -230,7 +258,7 @@ impl State {
         if is_too_large(head, pool, size) {
             Ok(Wish::Nothing)
         } else {
-            placing_wish(head, pool, self, size)
+            Ok(searching(placing_search(head, pool, self, size)?))
         }
     }
 
@@ -250,14 +278,9 @@ impl State {
             malloc (rules_of head.now pool) self.now size site claim) }
     {
         if is_too_large(head, pool, size) {
-            return unchanged(self, null_or_fault(head, pool, Why::TooLarge));
+            return too_large(head, pool, self);
         }
-        let Placed { address, next } = placing(head, pool, self, size, site, claim)?;
-        Ok(Step {
-            reply: block_or_null(head, pool, address),
-            words: words_for(head, pool, size),
-            release: None,
-            next,
-        })
+        let placed = placing(head, pool, self, size, site, claim)?;
+        Ok(block_placed(head, pool, words_for(head, pool, size), placed))
     }
 }

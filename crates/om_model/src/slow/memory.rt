@@ -2,7 +2,7 @@
 ghost use Rattle.std.specs.Prelude.{◌≡◌, ◌==◌, not, ◌*◌, ◌+◌, ◌^◌, ◌<◌, [], length, replicate, slice_index, slice_set, IfOk, IfSome, OnOk};
 ghost use Rattle.std.specs.List.{position_from};
 ghost use Rattle.om_frame.specs.Frames.{with_frames, without_pages, zero_frames, zeros};
-ghost use Rattle.om_frame.specs.Memory.{no_pages, page_bytes, offset_at, byte_at, bytes_at, first_other, with_byte, filled};
+ghost use Rattle.om_frame.specs.Memory.{no_pages, page_bytes, offset_at, byte_at, bytes_at, first_other, with_byte, with_bytes, filled, copied};
 
 use super::in_use::page_of;
 use om_geom::{FIRST_ADDRESS, PAGE_SIZE, ZONE_PAGES};
@@ -161,6 +161,30 @@ impl Memory {
         for i in 0..len {
             self.write(address + i, byte);
         }
+    }
+
+    // Writes the bytes, the first at the address and each other one at the next address.
+    fn write_all(&mut self, address: u128, bytes: &[u8])
+        requires { address < 2 ^ 66 }
+        ensures { self.new ≡ with_bytes self.old address bytes.now }
+    {
+        let mut at = address;
+        for byte in bytes {
+            self.write(at, *byte);
+            at += 1;
+        }
+    }
+
+    /// Copies so many bytes from one address to another.
+    pub(super) fn copy_bytes(&mut self, from: u128, to: u128, len: u128) -> Result<(), AllocError>
+        requires from { from < 2 ^ 66 }
+        requires to { to < 2 ^ 66 }
+        requires few { len < 2 ^ 66 }
+        ensures { OnOk result (self.new ≡ copied self.old from to len) }
+    {
+        let bytes = self.bytes_at(from, len)?;
+        self.write_all(to, &bytes);
+        Ok(())
     }
 }
 

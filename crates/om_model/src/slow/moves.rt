@@ -5,6 +5,7 @@ ghost use Rattle.om_model.specs.Output.Head.{rules_of};
 ghost use Rattle.om_model.specs.Zones.Moves.{size_asked, pages_sought, search_word, moves_of_call, moves_of_entry, moves_of, moves_from};
 
 use super::malloc::{pages_for, words_for};
+use super::product::product;
 use crate::content::Head;
 use crate::entry::{CallEntry, Entry, ZoneMove};
 use crate::journal::Journal;
@@ -104,13 +105,16 @@ fn push_moves(
     Ok(())
 }
 
-// The size of the block that an operation asks for.
+// The size of the block that an operation asks for; none where a product has no number of 64 bits.
 fn size_asked(op: Op) -> Option<u64>
     ensures { result ≡ size_asked op }
 {
     match op {
-        Op::Malloc { size, .. } => Some(size),
-        _ => None,
+        Op::Malloc { size, .. } | Op::Realloc { size, .. } => Some(size),
+        Op::Calloc { count, size, .. } | Op::Reallocarray { count, size, .. } => {
+            product(count, size)
+        }
+        Op::Free { .. } | Op::Load { .. } | Op::Store { .. } => None,
     }
 }
 

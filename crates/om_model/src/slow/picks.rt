@@ -140,11 +140,12 @@ fn are_free(used: &[Use], held: &[u32], first: u64, end: u64) -> bool
     (first..end).all(|page| is_held(held, page) && is_free_page(used, page))
 }
 
-fn is_free_run(used: &[Use], held: &[u32], count: u64, first: u32) -> bool
-    requires { count < 2 ^ 63 }
+/// Whether so many pages of one zone from this one on are each held and free.
+pub(super) fn is_free_run(used: &[Use], held: &[u32], count: u64, first: u64) -> bool
+    requires few { count < 2 ^ 63 }
+    requires first { first < 2 ^ 63 }
     ensures { result ≡ is_free_run used.now held.now count first }
 {
-    let first = u64::from(first);
     let pages = u64::from(ZONE_PAGES);
     first % pages + count <= pages && are_free(used, held, first, first + count)
 }
@@ -157,5 +158,5 @@ pub fn own_run(used: &[Use], held: &[u32], count: u64) -> Option<u32>
 {
     held.iter()
         .copied()
-        .find(|first| is_free_run(used, held, count, *first))
+        .find(|first| is_free_run(used, held, count, u64::from(*first)))
 }

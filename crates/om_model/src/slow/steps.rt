@@ -2,9 +2,12 @@
 ghost use Rattle.std.specs.Prelude.{◌≡◌, IfOk};
 ghost use Rattle.om_model.specs.Output.Head.{rules_of};
 ghost use Rattle.om_model.specs.Pool.Steps.{unchanged, null_or_fault};
+ghost use Rattle.om_model.specs.Slow.{searching, wish_in};
 
 use super::state::State;
 use crate::content::Head;
+use crate::entry::Move;
+use crate::looks::Look;
 use crate::reply::{Fault, Reply, Why};
 use std::alloc::AllocError;
 use std::marker::Model;
@@ -16,11 +19,27 @@ pub struct Run {
     pub count: u64,
 }
 
-/// What is asked of the zones: nothing, or a search for so many pages by a random word.
+/// A search for so many pages by a random word.
+#[derive(Clone, Copy)]
+pub struct Search {
+    pub count: u64,
+    pub word: u32,
+}
+
+/// What is asked of the zones: nothing; a search; or a claim of a given run, and the search, if any, that is
+/// made where a page of it is held.
 #[derive(Clone, Copy)]
 pub enum Wish {
     Nothing,
-    Search(u64, u32),
+    Search(Search),
+    At(Run, Option<Search>),
+}
+
+/// What the zones answered: the claim, and the look at which a claim at a given run found a page held.
+#[derive(Clone, Copy)]
+pub struct Answers {
+    pub claim: Option<Move>,
+    pub taken: Option<Look>,
 }
 
 /// What a step does.
@@ -48,6 +67,16 @@ impl Model for Step {
       release = option_map run_in s.release;
       next = s.next;
     } };
+}
+
+/// A search, or nothing.
+pub(super) fn searching(search: Option<Search>) -> Wish
+    ensures { wish_in result ≡ searching search }
+{
+    match search {
+        Some(search) => Wish::Search(search),
+        None => Wish::Nothing,
+    }
 }
 
 /// An answer that draws no word and changes nothing.

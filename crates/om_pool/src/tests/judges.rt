@@ -94,7 +94,10 @@ pub(super) fn judge_moves<R: Abort>(
     alloc: Global,
     head: &Head,
     journal: &Journal,
-) -> Result<(), AllocError> {
+) -> Result<(), AllocError>
+    requires words { HasWords head.now.plan }
+    requires zones { head.now.zones ≡ 64 }
+{
     let mut moves = moves_of(alloc, head, journal)?;
     assert!(rt; slow::are_looks(alloc, head, 0, &moves, journal)?);
     judge_order(rt, &mut moves)
@@ -118,7 +121,10 @@ pub(super) fn judge_short<R: Abort>(
     head: &Head,
     moves: &[ZoneMove],
     journal: &Journal,
-) -> Result<(), AllocError> {
+) -> Result<(), AllocError>
+    requires words { HasWords head.now.plan }
+    requires zones { head.now.zones ≡ 64 }
+{
     assert!(rt; slow::are_looks(alloc, head, 0, moves, journal)?);
     let fewer = moves.get(..31).unwrap_or(&[]);
     assert!(rt; !slow::are_looks(alloc, head, 0, fewer, journal)?);

@@ -41,7 +41,8 @@ fn reply_to<R: Abort + Wait>(
     addresses: &mut Vec<u64>,
 ) -> Result<Reply, AllocError> {
     match choice % 8 {
-        0 | 1 => pool.malloc(rt, 2000),
+        0 => pool.malloc(rt, 2000),
+        1 => pool.calloc(rt, 20, 100),
         2 => pool.malloc(rt, u64::from(choice) / 8 % 20_000),
         3 => pool.store(rt, some_address(addresses, choice), 7),
         4 => pool.load(rt, some_address(addresses, choice) | 64),

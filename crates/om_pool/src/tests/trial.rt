@@ -23,7 +23,7 @@ impl Model for Trial {
     ghost use Rattle.std.specs.Prelude.{◌≡◌, ◌+◌, ◌*◌, ◌≤◌, length};
     ghost use Rattle.om_broker.specs.Lone.{Lone, lone_share};
     ghost use Rattle.om_geom.specs.Numbers.{most_zones};
-    ghost use Rattle.om_pool.specs.PoolView.{PoolView};
+    ghost use Rattle.om_pool.specs.PoolView.{call_moves, PoolView};
 
     ghost Value = { PoolView Lone };
 
@@ -31,7 +31,7 @@ impl Model for Trial {
 
     ghost invariant = { λ t. ((t.pool.rules).zones ≤ most_zones)
         × (lone_share ≤ (t.pool.broker).left + length (t.pool.state).held
-        + 66 * length (t.pool.journal).items) };
+        + call_moves * length (t.pool.journal).items) };
 }
 
 /// Over a list of words.
@@ -84,6 +84,17 @@ impl Trial {
         Ok(self.pool.malloc(rt, who(), size, 0))
     }
 
+    pub(super) fn calloc<R: Abort + Wait>(
+        &mut self,
+        rt: &R,
+        count: u64,
+        size: u64,
+    ) -> Result<Reply, AllocError> {
+        assert!(rt; self.pool.journal().len() < 2_000);
+        self.pool.reserve()?;
+        Ok(self.pool.calloc(rt, who(), count, size, 0))
+    }
+
     pub(super) fn free<R: Abort + Wait>(
         &mut self,
         rt: &R,
@@ -122,10 +133,11 @@ fn who() -> Who
     }
 }
 
-/// A call on a pool: a size, or an address. A store writes the byte 7.
+/// A call on a pool: a size, a count and a size, or an address. A store writes the byte 7.
 #[derive(Clone, Copy)]
 pub(super) enum Call {
     Malloc(u64),
+    Calloc(u64, u64),
     Free(u64),
     Load(u64),
     Store(u64),
@@ -134,6 +146,7 @@ pub(super) enum Call {
 fn answer<R: Abort + Wait>(rt: &R, pool: &mut Trial, call: Call) -> Result<Reply, AllocError> {
     match call {
         Call::Malloc(size) => pool.malloc(rt, size),
+        Call::Calloc(count, size) => pool.calloc(rt, count, size),
         Call::Free(address) => pool.free(rt, address),
         Call::Load(address) => pool.load(rt, address),
         Call::Store(address) => pool.store(rt, address, 7),

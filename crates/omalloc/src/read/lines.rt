@@ -3,7 +3,7 @@
 ghost use Rattle.std.specs.Prelude.{◌≡◌, ◌<◌, ◌≤◌, [], ◌∷◌, length, IfSome, MatchOption};
 ghost use Rattle.std.specs.List.{list_all};
 ghost use Rattle.std.specs.Option.{option_map, option_copied};
-ghost use Rattle.omalloc.specs.AcceptedInput.{text_lines, fields_of, only_number, store_of, asked_of, title_of, request_of};
+ghost use Rattle.omalloc.specs.AcceptedInput.{text_lines, fields_of, fields_behind, only_number, two_numbers, asked_of, title_of, has_two_names, line_with, line_from, line_of};
 ghost use Rattle.om_model.specs.Scripts.Names.{is_letter, is_name_byte, is_name};
 
 use crate::bytes::{cut_at, first_place, is_digit, number_to};
@@ -96,16 +96,18 @@ fn only_number(greatest: u64, fields: &[u8]) -> Option<u64>
     }
 }
 
-fn store_of(fields: &[u8]) -> Option<Request>
-    ensures { result ≡ store_of (fields_of fields.now) }
+// The numbers up to these two that are the only fields.
+fn two_numbers(greatest: u64, last: u64, fields: &[u8]) -> Option<(u64, u64)>
+    ensures numbers { result ≡ two_numbers greatest last (fields_of fields.now) }
+    ensures bound { IfSome result (λ numbers. numbers.1 ≤ last) }
 {
-    let (off, more) = cut_field(fields);
-    let off = number_to(u64::MAX, off)?;
-    let byte = only_number(u64::from(u8::MAX), more?)?;
-    Some(Request::Store(off, byte as u8))
+    let (field, more) = cut_field(fields);
+    let first = number_to(greatest, field)?;
+    let second = only_number(last, more?)?;
+    Some((first, second))
 }
 
-// What a keyword asks with nothing behind the name.
+// What a keyword asks with nothing behind the names.
 fn asked_alone(keyword: &[u8]) -> Option<Request>
     ensures { result ≡ asked_of keyword.now [] }
 {
@@ -116,34 +118,106 @@ fn asked_alone(keyword: &[u8]) -> Option<Request>
     }
 }
 
-// What a keyword asks with these fields behind the name.
+// What a keyword asks with these fields behind the names.
 #[tactic(auto, using(crate::proofs::Cuts::free_long))]
 fn asked_with(keyword: &[u8], fields: &[u8]) -> Option<Request>
     ensures { result ≡ asked_of keyword.now (fields_of fields.now) }
 {
     if keyword == b"malloc".as_slice() {
         Some(Request::Malloc(only_number(u64::MAX, fields)?))
+    } else if keyword == b"calloc".as_slice() {
+        let (count, size) = two_numbers(u64::MAX, u64::MAX, fields)?;
+        Some(Request::Calloc(count, size))
+    } else if keyword == b"realloc".as_slice() {
+        Some(Request::Realloc(only_number(u64::MAX, fields)?))
+    } else if keyword == b"reallocarray".as_slice() {
+        let (count, size) = two_numbers(u64::MAX, u64::MAX, fields)?;
+        Some(Request::Reallocarray(count, size))
     } else if keyword == b"load".as_slice() {
         Some(Request::Load(only_number(u64::MAX, fields)?))
     } else if keyword == b"store".as_slice() {
-        store_of(fields)
+        let (off, byte) = two_numbers(u64::MAX, u64::from(u8::MAX), fields)?;
+        Some(Request::Store(off, byte as u8))
     } else {
         None
     }
 }
 
-/// The name of the variable, and what is asked for it.
-pub fn request_of(line: &[u8]) -> Option<(&[u8], Request)>
-    ensures { option_map (λ r. (r.0.now, r.1)) result ≡ request_of (fields_of line.now) }
+/// A line of a script between the first and the last.
+pub struct Line<'a> {
+    /// The variable that it is for.
+    pub name: &'a [u8],
+    /// The variable whose block it resizes.
+    pub from: Option<&'a [u8]>,
+    pub request: Request,
+}
+
+// Behind the keyword stand two names.
+fn has_two_names(keyword: &[u8]) -> bool
+    ensures { result ≡ has_two_names keyword.now }
+{
+    keyword == b"realloc".as_slice() || keyword == b"reallocarray".as_slice()
+}
+
+// The line with these names, by what stands behind them.
+fn line_with<'a>(
+    keyword: &[u8],
+    name: &'a [u8],
+    from: Option<&'a [u8]>,
+    fields: Option<&[u8]>,
+) -> Option<Line<'a>>
+    ensures { option_map (λ line. record {
+      name = line.name.now;
+      from = option_copied line.from;
+      request = line.request;
+    }) result
+        ≡ line_with keyword.now name.now (option_copied from.entry)
+        (fields_behind (option_copied fields.entry)) }
+{
+    let request = match fields {
+        None => asked_alone(keyword)?,
+        Some(fields) => asked_with(keyword, fields)?,
+    };
+    Some(Line {
+        name,
+        from,
+        request,
+    })
+}
+
+// The line whose second name is the first of these fields.
+fn line_from<'a>(keyword: &[u8], name: &'a [u8], fields: &'a [u8]) -> Option<Line<'a>>
+    ensures { option_map (λ line. record {
+      name = line.name.now;
+      from = option_copied line.from;
+      request = line.request;
+    }) result
+        ≡ line_from keyword.now name.now (fields_of fields.now) }
+{
+    let (from, more) = cut_field(fields);
+    if !is_name(from) {
+        return None;
+    }
+    line_with(keyword, name, Some(from), more)
+}
+
+/// What a line says, where it is a command's.
+pub fn line_of(line: &[u8]) -> Option<Line<'_>>
+    ensures { option_map (λ line. record {
+      name = line.name.now;
+      from = option_copied line.from;
+      request = line.request;
+    }) result
+        ≡ line_of (fields_of line.now) }
 {
     let (keyword, rest) = cut_field(line);
     let (name, more) = cut_field(rest?);
     if !is_name(name) {
         return None;
     }
-    let request = match more {
-        None => asked_alone(keyword)?,
-        Some(fields) => asked_with(keyword, fields)?,
-    };
-    Some((name, request))
+    if has_two_names(keyword) {
+        line_from(keyword, name, more?)
+    } else {
+        line_with(keyword, name, None, more)
+    }
 }

@@ -83,6 +83,9 @@ fn letters_give_the_flags(rt: HostRuntime) -> Result<(), Fail> {
         ("fcF", "-F--U--"),
         ("FGfU", "--G-U--"),
         ("DFRdr", "-F--U--"),
+        ("R", "---R---"),
+        ("FR", "-F-RU--"),
+        ("CRGr", "C-G----"),
     ];
     for (letters, flags) in cases {
         let line = format!(in rt.alloc(); "run -o {letters} -w 0")?;
@@ -108,6 +111,7 @@ fn all_checks(rt: HostRuntime) -> Result<(), Fail> {
         ("Su", "CFG----"),
         ("Sf", "C-G----"),
         ("SfU", "C-G-U--"),
+        ("SR", "CFGRU--"),
         ("Scf", "--G----"),
     ];
     for (letters, flags) in cases {

@@ -39,13 +39,45 @@ fn lines_of(alloc: Global, choice: u32) -> Result<String, AllocError> {
     }
 }
 
+// Commands over four names, each of which has a live block or 0: it comes to another size, of up to 3,000 bytes or up to
+// 16 pages, and its last byte is written, or it is freed and followed by another. None of them faults.
+fn resizing_lines_of(alloc: Global, choice: u32) -> Result<String, AllocError> {
+    let name = choice % 4;
+    let byte = choice % 256;
+    let last = choice / 64 % 3_000;
+    let small = last + 1;
+    let large = 4096 * (choice / 64 % 16 + 1) - byte;
+    match choice / 4 % 8 {
+        0 => format!(in alloc; "free v{name}\ncalloc v{name} 16 {small}\nload v{name} {last}\n"),
+        1..=2 => format!(in alloc;
+            "realloc v{name} v{name} {large}\nload v{name} 0\nstore v{name} 2048 {byte}\n"
+        ),
+        3..=5 => format!(in alloc;
+            "realloc v{name} v{name} {small}\nload v{name} 0\nstore v{name} {last} {byte}\n"
+        ),
+        6 => format!(in alloc; "reallocarray v{name} v{name} 3 {small}\nload v{name} {last}\n"),
+        _ => format!(in alloc; "free v{name}\nmalloc v{name} {large}\nstore v{name} 2048 {byte}\n"),
+    }
+}
+
 // A script of commands that the words of a seed choose.
-fn script_text(rt: &impl Abort, alloc: Global, seed: u64, steps: u32) -> Result<String, Fail> {
+fn script_text(
+    rt: &impl Abort,
+    alloc: Global,
+    seed: u64,
+    steps: u32,
+    resizing: bool,
+) -> Result<String, Fail> {
     let mut choices = Words::seeded(seed, 1);
     let mut text = String::from_str(alloc, "script plain\n")?;
     for _ in 0..steps {
         assert!(rt; choices.place() < 1_000);
-        let lines = lines_of(alloc, choices.draw())?;
+        let choice = choices.draw();
+        let lines = if resizing {
+            resizing_lines_of(alloc, choice)?
+        } else {
+            lines_of(alloc, choice)?
+        };
         text.push_str(lines.as_str())?;
     }
     text.push_str("end\n")?;
@@ -146,6 +178,17 @@ fn plain_output<R: Abort + Wait>(
 }
 
 // The program writes what the plain forms write, and ends so.
+fn writes_text_the_same<R: Abort + Threads + Wait + Sync>(
+    rt: &R,
+    alloc: Global,
+    line: &str,
+    text: &str,
+    status: Status,
+) -> Result<(), Fail> {
+    let written = plain_output(rt, alloc, line, text)?;
+    gives(rt, alloc, line, text, status, &written)
+}
+
 fn writes_the_same<R: Abort + Threads + Wait + Sync>(
     rt: &R,
     alloc: Global,
@@ -153,9 +196,26 @@ fn writes_the_same<R: Abort + Threads + Wait + Sync>(
     line: &str,
     status: Status,
 ) -> Result<(), Fail> {
-    let text = script_text(rt, alloc, seed, 40)?;
-    let written = plain_output(rt, alloc, line, text.as_str())?;
-    gives(rt, alloc, line, text.as_str(), status, &written)
+    let text = script_text(rt, alloc, seed, 40, false)?;
+    writes_text_the_same(rt, alloc, line, text.as_str(), status)
+}
+
+fn resizes_the_same<R: Abort + Threads + Wait + Sync>(
+    rt: &R,
+    alloc: Global,
+    seed: u64,
+    line: &str,
+) -> Result<(), Fail> {
+    let text = script_text(rt, alloc, seed, 40, true)?;
+    writes_text_the_same(rt, alloc, line, text.as_str(), Status::Finished)
+}
+
+#[test]
+fn the_plain_forms_resize_the_same(rt: HostRuntime) -> Result<(), Fail> {
+    resizes_the_same(&rt, rt.alloc(), 6, "run -s 8")?;
+    resizes_the_same(&rt, rt.alloc(), 7, "run -o GJR -s 9")?;
+    resizes_the_same(&rt, rt.alloc(), 8, "run -o CF<<<< -z 8 -s 10")?;
+    resizes_the_same(&rt, rt.alloc(), 9, "run -o GUj -z 8 -w 31,7,2")
 }
 
 #[test]

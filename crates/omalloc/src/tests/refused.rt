@@ -24,7 +24,9 @@ fn refuses_line<R: Abort + Threads + Wait + Sync>(
 fn other_lines_are_refused(rt: HostRuntime) -> Result<(), Fail> {
     refuses_line(&rt, rt.alloc(), "", 1)?;
     let large = "script a\nmalloc x 18446744073709551616\nend\n";
-    refuses_line(&rt, rt.alloc(), large, 2)
+    refuses_line(&rt, rt.alloc(), large, 2)?;
+    let one_name = "script a\nmalloc x 1\nrealloc x 2\nend\n";
+    refuses_line(&rt, rt.alloc(), one_name, 3)
 }
 
 fn refuses_arguments<R: Abort + Threads + Wait + Sync>(
@@ -57,10 +59,9 @@ fn other_arguments_are_refused(rt: HostRuntime) -> Result<(), Fail> {
         "run -w 0 -o J",
         "run -o J -o J",
         "run -o J -s",
-        "run -o R",
         "run -o X",
         "run -o D",
-        "run -o FR",
+        "run -o RX",
         "run -o SX",
         "run -o Df",
         "run -o -",

@@ -9,7 +9,7 @@ ghost use Rattle.omalloc.specs.Script.{IsScript};
 ghost use Rattle.omalloc.specs.ScriptRun.{op_of, given, assigned, run_from, script_run, IsCourse, IsEnded, IsScriptRun};
 
 use crate::command::Command;
-use crate::run::{at_offset, given, is_fault, outcome_of};
+use crate::run::{at_offset, free_op, given, is_fault, outcome_of, realloc_op, reallocarray_op};
 use crate::script::Script;
 use om_model::slow::{self, Answered};
 use om_model::{Call, Journal, Op, Outcome, Reply};
@@ -203,14 +203,26 @@ fn op_of(values: &[u64], command: Command) -> Option<Op>
 {
     match command {
         Command::Malloc { size, site, .. } => Some(Op::Malloc { size, site }),
-        Command::Free { var } => {
-            let addr = value_of(values, var);
-            if addr == 0 {
-                None
-            } else {
-                Some(Op::Free { addr })
-            }
-        }
+        Command::Calloc {
+            count,
+            size,
+            site,
+            ..
+        } => Some(Op::Calloc { count, size, site }),
+        Command::Realloc {
+            from,
+            size,
+            site,
+            ..
+        } => Some(realloc_op(value_of(values, from), size, site)),
+        Command::Reallocarray {
+            from,
+            count,
+            size,
+            site,
+            ..
+        } => Some(reallocarray_op(value_of(values, from), count, size, site)),
+        Command::Free { var } => free_op(value_of(values, var)),
         Command::Load { var, off } => Some(Op::Load {
             addr: at_offset(value_of(values, var), off),
         }),
@@ -226,7 +238,10 @@ fn assign(values: &mut Vec<u64>, command: Command, outcome: Outcome)
     ensures { values.new.items ≡ assigned values.old.items command outcome }
 {
     match command {
-        Command::Malloc { var, .. } => {
+        Command::Malloc { var, .. }
+        | Command::Calloc { var, .. }
+        | Command::Realloc { var, .. }
+        | Command::Reallocarray { var, .. } => {
             if (var as usize) < values.len() {
                 values[var as usize] = given(outcome);
             }

@@ -1,4 +1,4 @@
-use Rattle.std.proofs.Common.{◌≡◌, ℕ, ◌*◌, Bool, List, Option, Some, refl, sym, subst, ap, ◌∙◌, arith}
+use Rattle.std.proofs.Common.{◌≡◌, ℕ, ◌*◌, Bool, List, length, Option, Some, refl, sym, subst, ap, ◌∙◌, arith}
 use Rattle.om_broker.specs.declared.broker.Claim.{Claim}
 use Rattle.om_frame.specs.FrameLaws.{held-page, held-with_zeros}
 use Rattle.om_frame.specs.Frames.{with_frames, zero_frames}
@@ -16,6 +16,7 @@ use Rattle.om_pool.specs.Malloc.{IsFor, IsForClaim, IsOwnRun}
 use Rattle.om_opts.specs.declared.options.Opts.{Opts}
 use Rattle.om_pool.specs.TableSteps.{claimed_run}
 use Rattle.om_pool.specs.Tables.{Tables}
+use Rattle.om_pool.proofs.TableRuns.{data-within}
 use Rattle.om_pool.proofs.holdings.Holdings.put_claimed.Goals as goal
 
 pub put_on-requires-clause-run : goal.put_on-requires-clause-run
@@ -39,6 +40,7 @@ put_on-requires-clause-run c =
     let run : IsOwnRun own n first = record {
       there = omega arith;
       one_zone = for.one_zone;
+      in_blocks = let same = ap length c.add_pages.ensures.requests in omega (arith, tied.blocks_all, c.requires.some, data-within c.args.pages old.opts.guard);
       held = subst All (sym (ap (λ (t : Tables). t.pages) after)) (with_run-all is_held old.pages first n Free (omega arith) refl first n (omega arith) (omega arith));
       bytes = λ page low high. ap (λ (t : Tables). frames.is_held t.memory page) after
           ∙ held-page (with_frames old.shelf (zero_frames first n)) (address_of first) (page_size * n) page (held-with_zeros old.shelf first n (omega arith)) (omega arith) (omega arith);

@@ -6,7 +6,6 @@ use Rattle.om_pool.proofs.CallLaws.{backed-quiet}
 use Rattle.om_pool.specs.PoolView.{says_no_run}
 use Rattle.om_pool.specs.declared.standing.Standing.TheVariants as code
 use Rattle.om_pool.proofs.CoreLaws.{core-tied}
-use Rattle.om_pool.proofs.FreeBlock.{block-at}
 use Rattle.om_pool.proofs.FreeLaws.{frees-at, means-at}
 use Rattle.om_pool.proofs.Spending.{uses-quiet}
 use Rattle.om_pool.proofs.pool_core.Core.free.Goals as goal
@@ -44,7 +43,7 @@ free_place-requires-clause-live g c =
 pub free_block-requires-clause-block : goal.free_block-requires-clause-block
 free_block-requires-clause-block g c =
     let here = c.in-PageBlock in
-    block-at c.args.self.now c.requires.kept c.args.address here.first here.pages (sym here.is ∙ c.standing.ensures)
+    means-at c.args.self.now c.args.address c.requires.kept (code.PageBlock here.block) (sym here.is ∙ c.standing.ensures)
 
 pub returns-in-NotHeld-clause-backed : goal.returns-in-NotHeld-clause-backed
 returns-in-NotHeld-clause-backed g c = backed-quiet g.B.Broker c.args.self.now c.answer.new.self c.args.broker.now c.args.who (Free c.args.address) c.answer.result c.answer.ensures.quiet c.requires.backed

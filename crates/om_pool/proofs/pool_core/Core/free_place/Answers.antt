@@ -7,7 +7,7 @@ use Rattle.om_pool.specs.CoreKept.{core_state}
 use Rattle.om_pool.specs.HoldingsView.{rules_in, tables_in}
 use Rattle.om_pool.proofs.CallLaws.{backed-quiet}
 use Rattle.om_pool.proofs.CoreLaws.{core-sound}
-use Rattle.om_pool.proofs.FreeLaws.{block-place, block-class, place-bytes}
+use Rattle.om_pool.proofs.PlaceLeaving.{block-class, block-place, place-bytes}
 use Rattle.om_pool.proofs.Spending.{uses-quiet}
 use Rattle.om_pool.proofs.pool_core.Core.free_place.Goals as goal
 

@@ -22,7 +22,7 @@ returns c =
     let entries = c.new-2.ensures in
     let state : state_of (rules_in own) c.new-2.result.items ≡ opening (rules_in own) = ap (state_of (rules_in own)) entries in
     let Lawful : List Entry → Type 0 = λ es. IsLawful (rules_in own) es in
-    let begun = tables-begin given (tables_in own) made.pages made.chunks made.slots made.memory in
+    let begun = tables-begin given (tables_in own) made.pages made.chunks made.blocks made.slots made.memory in
     record {
       kept = record {
         lawful = subst Lawful (sym entries) (record { calls = tt; phases = refl });
