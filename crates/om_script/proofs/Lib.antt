@@ -1,0 +1,13 @@
+pub mod Cuts
+pub mod WordSteps
+pub mod Digits
+pub mod Places
+pub mod NameTexts
+pub mod Whole
+pub mod ReaderSteps
+pub mod Sound
+pub mod PrintedWords
+pub mod PrintedLines
+pub mod PrintedScripts
+pub mod PrintedParts
+pub mod HexDigits

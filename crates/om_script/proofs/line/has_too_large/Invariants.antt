@@ -1,0 +1,7 @@
+use Rattle.std.proofs.Common.{◌≡◌, drop}
+use Rattle.om_script.specs.Lines.{words_in}
+use Rattle.om_script.specs.Keywords.{any_word, is_too_large}
+use Rattle.om_script.proofs.line.has_too_large.Given as goal
+
+abbrev pub invariant-loop-kind : goal.invariant-loop-kind
+invariant-loop-kind l = any_word is_too_large (drop l.kind-index l.kinds) (words_in l.rest) ≡ any_word is_too_large l.kinds (words_in l.words)

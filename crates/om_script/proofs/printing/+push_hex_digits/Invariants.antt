@@ -1,0 +1,4 @@
+use Rattle.om_script.proofs.printing.+push_hex_digits.Given as goal
+
+abbrev pub decreases-push_hex_digits : goal.decreases-push_hex_digits
+decreases-push_hex_digits l = l.number

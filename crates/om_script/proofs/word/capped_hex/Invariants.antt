@@ -1,0 +1,6 @@
+use Rattle.std.proofs.Common.{◌≡◌, take, min}
+use Rattle.std.specs.Str.Parse.{digits_value}
+use Rattle.om_script.proofs.word.capped_hex.Given as goal
+
+abbrev pub invariant-loop-b : goal.invariant-loop-b
+invariant-loop-b l = l.value ≡ min (digits_value 16 (take l.b-index l.digits)) l.cap

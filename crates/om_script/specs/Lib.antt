@@ -1,0 +1,11 @@
+pub mod Lines
+pub mod Words
+pub mod Keywords
+pub mod Script
+pub mod Standing
+pub mod Reading
+pub mod Scripts
+pub mod Steps
+pub mod Accepted
+pub mod Canonical
+pub mod Parts
